@@ -1,0 +1,70 @@
+-- The loop keeps the end of the run of identifier characters.
+use Prim.Native.Nat.{_≤_, _+_, _-_}
+use Rattle.lexis.proofs.Runs.{inside, run-on, run-stop, tested}
+use Rattle.lexis.specs.Bytes.{isStart, isRest, runTo}
+use borrow.Author.Needs.{needs}
+use borrow.Author.Tests.{not-true, not-false}
+use lib.ListN.{length}
+use mathlib.Core.Path.{_≡_, refl, sym, _∙_}
+use native.Mathlib.Omega.{arith}
+use Rattle.lexis.proofs.word.ident_end.Statement.{statement}
+use Rattle.lexis.proofs.word.ident_end.Tie as tie
+
+abbrev Inv-loop : tie.InvT-loop
+Inv-loop s p b i₀ i = (p + 1 ≤ i) × (i ≤ p + (length s - p)) × (runTo isRest s i ≡ runTo isRest s (p + 1))
+
+abbrev μ-loop : tie.MeasureT-loop
+μ-loop s p b i₀ i = length s - i
+
+returns : tie.Need-returns Inv-loop μ-loop
+returns c = record {
+  is = sym (rw (tested isStart (c .before .before .byte-at .ensures) (c .before .is-start .ensures) (not-true _ (c .if1 .taken))));
+  low = omega arith;
+  high = omega arith;
+}
+
+add-i : tie.Need-add-i Inv-loop μ-loop
+add-i c = let a = c .before .before .before .before .args in
+    omega (arith, inside isStart (a .s .now) (a .p) refl (tested isStart (c .before .before .byte-at .ensures) (c .before .is-start .ensures) (not-false _ (c .if1 .left))))
+
+loop-holds : tie.Need-loop-holds Inv-loop μ-loop
+loop-holds c = let a = c .before .before .before .before .args in
+    (omega arith, omega (arith, inside isStart (a .s .now) (a .p) refl (tested isStart (c .before .before .byte-at .ensures) (c .before .is-start .ensures) (not-false _ (c .if1 .left)))), refl)
+
+returns-2 : tie.Need-returns-2 Inv-loop μ-loop
+returns-2 c = record {
+  is = sym (rw (tested isStart (c .before .before .before .before .before .before .byte-at .ensures) (c .before .before .before .before .before .is-start .ensures) (not-false _ (c .before .before .before .before .if1 .left))) (sym (c .before .before .before .loop .inv .2) ∙ run-stop isRest (c .before .before .before .before .before .before .before .before .args .s .now) (c .before .before .before .loop .i) (tested isRest (c .before .before .byte-at2 .ensures) (c .before .is-rest .ensures) (not-true _ (c .if2 .taken)))));
+  low = omega arith;
+  high = omega arith;
+}
+
+add-i-2 : tie.Need-add-i-2 Inv-loop μ-loop
+add-i-2 c = omega (arith, inside isRest (c .before .before .before .before .before .before .before .before .args .s .now) (c .before .before .before .loop .i) refl (tested isRest (c .before .before .byte-at2 .ensures) (c .before .is-rest .ensures) (not-false _ (c .if2 .left))))
+
+loop-less : tie.Need-loop-less Inv-loop μ-loop
+loop-less c = omega (arith, inside isRest (c .before .before .before .before .before .before .before .before .args .s .now) (c .before .before .before .loop .i) refl (tested isRest (c .before .before .byte-at2 .ensures) (c .before .is-rest .ensures) (not-false _ (c .if2 .left))))
+
+loop-again : tie.Need-loop-again Inv-loop μ-loop
+loop-again c = let a = c .before .before .before .before .before .before .before .before .args in (
+  omega arith,
+  omega (arith, inside isRest (a .s .now) (c .before .before .before .loop .i) refl (tested isRest (c .before .before .byte-at2 .ensures) (c .before .is-rest .ensures) (not-false _ (c .if2 .left)))),
+  run-on isRest (a .s .now) (c .before .before .before .loop .i) (inside isRest (a .s .now) (c .before .before .before .loop .i) refl (tested isRest (c .before .before .byte-at2 .ensures) (c .before .is-rest .ensures) (not-false _ (c .if2 .left)))) (tested isRest (c .before .before .byte-at2 .ensures) (c .before .is-rest .ensures) (not-false _ (c .if2 .left))) ∙ (c .before .before .before .loop .inv .2),
+)
+
+pub ident-end-spec : {M : Type 1} → statement M
+ident-end-spec =
+    tie.close
+    (tie.spec
+    Inv-loop
+    μ-loop
+    (λ c κs. search needs)
+    (λ c κs. search needs)
+    returns
+    add-i
+    loop-holds
+    (λ c κs. search needs)
+    (λ c κs. search needs)
+    returns-2
+    add-i-2
+    loop-less
+    loop-again)

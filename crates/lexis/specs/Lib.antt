@@ -1,0 +1,16 @@
+pub mod Bytes
+pub mod Trivia
+pub mod Word
+pub mod Number
+pub mod Operator
+pub mod Utf8
+pub mod Heredoc
+pub mod String
+pub mod Keys
+pub mod Shown
+pub mod TextShown
+pub mod KeysShown
+pub mod RunLaws
+pub mod TriviaLaws
+pub mod TokenLaws
+pub mod TextLaws
