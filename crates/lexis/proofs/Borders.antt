@@ -16,7 +16,7 @@ use Rattle.lexis.specs.Heredoc.{freshAt}
 use Rattle.lexis.specs.String.{Mode, quoted, heredoc, not, unitIn, textAt}
 use Rattle.lexis.specs.declared.string.Why.{Why}
 use Rattle.lexis.specs.declared.string.Why.the-variants.{Quote, Interpolation, Directive, Escape, Closing, Foreign, End}
-use Rattle.lexis.proofs.Runs.{here, front}
+use Rattle.lexis.specs.RunLaws.{here, front}
 use Rattle.lexis.proofs.Lines.{fresh-behind}
 use Rattle.lexis.proofs.Stops.{Stands, Stopped, unit-stopped, text-stop}
 use Rattle.lexis.proofs.Formeds.{formed-append, formed-byte, cut, text-formed}

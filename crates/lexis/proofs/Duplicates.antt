@@ -2,15 +2,14 @@
 use Prim.Native.Nat.{ℕ, zero, suc, _+_, _-_, _≤_, _<_, min}
 use mathlib.Core.Path.{_≡_, refl, sym, ap, _∙_}
 use mathlib.Core.List.{List, [], _∷_}
-use mathlib.Core.Bool.{Bool, true, false, cond, _&&_, _||_}
+use mathlib.Core.Bool.{Bool, true, false, _||_}
 use native.Mathlib.Decide.{decLt}
 use native.Mathlib.Omega.{arith}
 use lib.ListN.{length, getD}
 use lib.Dec.{eqb}
 use borrow.Author.Tests.{eq-eqb, eqb-true}
-use Rattle.lexis.specs.Heredoc.{part}
 use Rattle.lexis.specs.Keys.{Key, word, plain, other, alike, sameAs, sameKey, among, metBefore}
-use Rattle.lexis.proofs.Runs.{default, clash, and-left, and-right}
+use Rattle.lexis.specs.RunLaws.{default, clash, and-left, and-right}
 use Rattle.lexis.proofs.Lines.{part-next, part-none}
 
 pub alike-equal : (l k : List ℕ) → alike l k ≡ true → l ≡ k

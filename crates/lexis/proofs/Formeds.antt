@@ -19,7 +19,7 @@ use Rattle.lexis.specs.declared.heredoc.Line.{Line}
 use Rattle.lexis.specs.declared.heredoc.Line.the-variants as line
 use Rattle.lexis.specs.declared.string.Why.{Why}
 use Rattle.lexis.specs.declared.string.Why.the-variants.{Quote, Interpolation, Directive, Escape}
-use Rattle.lexis.proofs.Runs.{default, here, clash, and-left, and-right}
+use Rattle.lexis.specs.RunLaws.{default, here, clash, and-left, and-right}
 use Rattle.lexis.proofs.Spelling.{escape-none}
 use Rattle.lexis.proofs.Units.{encoded-by, scalar-most, Fine}
 use Rattle.lexis.proofs.Texts.{after, ind}

@@ -3,7 +3,6 @@ pub mod Trivias
 pub mod Words
 pub mod Numbers
 pub mod Operators
-pub mod Ends
 pub mod Sequences
 pub mod Wellformed
 pub mod Lines

@@ -13,7 +13,7 @@ use Rattle.lexis.specs.Bytes.{byteAt, isSpace, isRest, isForeign, run, r
 use Rattle.lexis.specs.Heredoc.{part, endsBy, closing, lineAs, lineAt, freshAt}
 use Rattle.lexis.specs.declared.heredoc.Line.{Line}
 use Rattle.lexis.specs.declared.heredoc.Line.the-variants.{Text, Closes, Foreign}
-use Rattle.lexis.proofs.Runs.{next, empty, default, clash, and-right, inside, run-high}
+use Rattle.lexis.specs.RunLaws.{next, empty, default, clash, and-right, inside, run-high}
 
 -- a line starts behind LF
 pub fresh-behind : (s : List ℕ) (p : ℕ) → (p ≡ 0 → ⊥) → freshAt s p ≡ eqb (byteAt s (p - 1)) 10

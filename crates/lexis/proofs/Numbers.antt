@@ -9,7 +9,8 @@ use lib.Dec.{leb, ltb}
 use borrow.Author.Tests.{ne-eqb, leb-true, lt-ltb, le-ltb}
 use Rattle.lexis.specs.Bytes.{byteAt, isDigit, run, Ran}
 use Rattle.lexis.specs.Number.{digitsTo, fractionTo, signTo, isExponent, exponentTo, numberTo, valueFrom, value, limit, indexAt}
-use Rattle.lexis.proofs.Runs.{here, inside, next, run-on, run-stop, run-first, run-later, and-left, and-right}
+use Rattle.lexis.specs.RunLaws.{here, inside, next, run-on, run-stop, and-left, and-right}
+use Rattle.lexis.proofs.Runs.{run-first, run-later}
 
 pub digit-low : (b : ℕ) → isDigit b ≡ true → 48 ≤ b
 digit-low b e = leb-true 48 b (and-left (leb 48 b) (leb b 57) e)

@@ -1,31 +1,19 @@
 -- Laws on the opener of a heredoc: what it is by its parts.
-use Prim.Native.Nat.{ℕ, zero, suc, _+_, _-_, _≤_, _<_}
-use mathlib.Core.Path.{_≡_, refl, sym, ap, _∙_}
+use Prim.Native.Nat.{ℕ, _+_, _-_, _≤_}
+use mathlib.Core.Path.{_≡_, refl, sym, _∙_}
 use mathlib.Core.List.{List, [], _∷_}
-use mathlib.Core.Bool.{Bool, true, false, cond, _&&_}
+use mathlib.Core.Bool.{Bool, true, false, cond}
 use native.Mathlib.Omega.{arith}
-use lib.ListN.{length, drop}
+use lib.ListN.{length}
 use lib.Dec.{eqb}
-use borrow.Author.Tests.{eq-eqb, ne-eqb}
-use Rattle.lexis.specs.Bytes.{byteAt, isStart, isRest, run, runTo, stands, Ran}
-use Rattle.lexis.specs.Trivia.{ending, Ending}
+use borrow.Author.Tests.{ne-eqb}
+use Rattle.lexis.specs.Bytes.{byteAt, isStart, isRest, runTo, stands, Ran}
+use Rattle.lexis.specs.Trivia.{Ending}
 use Rattle.lexis.specs.Word.{identTo}
-use Rattle.lexis.specs.Heredoc.{lineEnd, fails, opens, openerEnd, openerWord, openerAt, Opened}
+use Rattle.lexis.specs.Heredoc.{fails, opens, openerWord, openerAt, Opened}
 use Rattle.lexis.specs.declared.heredoc.Opener.{Opener}
-use Rattle.lexis.proofs.Runs.{stands-one, stands-two, stands-inside}
-
--- the line ending at a place
-pub ending-at : (s : List ℕ) (p : ℕ) → ending (drop p s) ≡ lineEnd s p
-ending-at s p = rw (stands-one 10 s p refl, stands-two 13 10 s p refl refl)
-
--- an identifier ends where it starts only if there is none
-starts-as : (s : List ℕ) (d : ℕ) (x : Bool) → cond x (runTo isRest s (d + 1)) d ≡ d → x ≡ false
-starts-as s d true e = absurd (omega arith)
-starts-as s d false e = refl
-
-ends-as : (s : List ℕ) (d : ℕ) (x : Bool) → (cond x (runTo isRest s (d + 1)) d ≡ d → ⊥) → x ≡ true
-ends-as s d true n = refl
-ends-as s d false n = absurd (n refl)
+use Rattle.lexis.proofs.Runs.{unmoved, moved}
+use Rattle.lexis.specs.RunLaws.{stands-one, stands-two, stands-inside}
 
 no-opener : {s : List ℕ} (p : ℕ) {q : ℕ} {r o : Opener} → r ≡ fails q → o ≡ fails q → p ≤ q → q ≤ p + (length s - p) → Opened o s p r
 no-opener p e f l h =
@@ -41,15 +29,14 @@ no-opener p e f l h =
 module _ {s : List ℕ} {d e : ℕ} (f : Bool) (h : Ran s d (identTo s d) e) where
   pub word-none : {r : Opener} → e ≡ d → r ≡ fails d → Opened (openerWord s f d) s d r
   word-none k g =
-      let n : isStart (byteAt s d) ≡ false = starts-as s d (isStart (byteAt s d)) (sym (h .is) ∙ k) in
+      let n : isStart (byteAt s d) ≡ false = unmoved d (runTo isRest s (d + 1)) (isStart (byteAt s d)) (omega arith) (sym (h .is) ∙ k) in
       no-opener d g (rw n) (omega arith) (omega arith)
 
   module _ (n : e ≡ d → ⊥) {w : ℕ} (l : Ending s e w) where
     word-here : openerWord s f d ≡ cond (eqb w 0) (fails e) (opens f d e (e + w))
     word-here =
-        let y : isStart (byteAt s d) ≡ true = ends-as s d (isStart (byteAt s d)) (λ k. n (h .is ∙ k)) in
-        let z : w ≡ lineEnd s e = l .is ∙ ending-at s e in
-        rw (z, h .is, y)
+        let y : isStart (byteAt s d) ≡ true = moved d (runTo isRest s (d + 1)) (isStart (byteAt s d)) (λ k. n (h .is ∙ k)) in
+        rw (l .is, h .is, y)
 
     pub word-line : {r : Opener} → w ≡ 0 → r ≡ fails e → Opened (openerWord s f d) s d r
     word-line k g = no-opener d g (word-here ∙ rw k) (h .low) (h .high)

@@ -1,16 +1,16 @@
 -- Laws on operators and marks.
-use Prim.Native.Nat.{ℕ, _+_, _*_, _≤_, _<_}
+use Prim.Native.Nat.{ℕ, _+_, _*_, _<_}
 use mathlib.Core.Path.{_≡_, refl, sym, ap, _∙_}
 use mathlib.Core.List.{List, [], _∷_}
 use mathlib.Core.Bool.{Bool, true, false, cond, not, _&&_, _||_}
-use native.Mathlib.Omega.{arith}
-use lib.ListN.{length, drop}
-use lib.Dec.{eqb, leb}
-use borrow.Author.Tests.{ne-eqb, leb-true}
+use lib.ListN.{length}
+use lib.Dec.{eqb, leb, leb→le}
+use borrow.Author.Tests.{ne-eqb}
 use Rattle.lexis.specs.declared.operator.Op.{Op}
-use Rattle.lexis.specs.Bytes.{byteAt, begins, stands, Ran}
-use Rattle.lexis.specs.Operator.{Row, op, noOp, operators, among, opAt, OpHere, anyOf, isMark, markTo, equalsTo}
-use Rattle.lexis.proofs.Runs.{stands-cons, stands-one, stands-two, stands-on, stands-inside, begins-most, left, clash, and-left, and-right}
+use Rattle.lexis.specs.Bytes.{byteAt, stands, Ran}
+use Rattle.lexis.specs.Operator.{op, noOp, opAt, OpHere, anyOf, markTo, equalsTo}
+use Rattle.lexis.specs.RunLaws.{stands-cons, stands-one, stands-two, stands-on}
+use Rattle.lexis.specs.TokenLaws.{op-wide, op-all, mark-ends}
 
 -- the operator that a byte is, with q the place after it
 abbrev opFrom : List ℕ → ℕ → ℕ → Op
@@ -81,70 +81,18 @@ pub chosen : (s : List ℕ) (p b : ℕ) {r two one t o : Op} → r ≡ cond (sta
     → r ≡ cond (stands (b ∷ []) s (p + 1)) t o
 chosen s p b e f g = e ∙ rw (f, g)
 
--- what each row of the table has: a width no larger than its bytes, and a kind and a level that are 0 where the width is
-fine : Row → Bool
-fine r =
-    leb (r .op .width) (length (r .bytes)) && (leb (r .op .kind) (36 * r .op .width) && (leb (r .op .kind) 36
-    && (leb (r .op .level) (6 * r .op .width) && leb (r .op .level) 6)))
-
-allFine : List Row → Bool
-allFine [] = true
-allFine (r ∷ rs) = fine r && allFine rs
-
-record Bounds (n : ℕ) (r : Op) : Type 0 where
-  inside : r .width ≤ n
-  wide : r .kind ≤ 36 * r .width
-  known : r .kind ≤ 36
-  level : r .level ≤ 6 * r .width
-  tight : r .level ≤ 6
-
-five : (a b c d e : Bool) → (a && (b && (c && (d && e)))) ≡ true → (a ≡ true) × (b ≡ true) × (c ≡ true) × (d ≡ true) × (e ≡ true)
-five true true true true e h = (refl, refl, refl, refl, h)
-five true true true false e h = clash (sym h)
-five true true false d e h = clash (sym h)
-five true false c d e h = clash (sym h)
-five false b c d e h = clash (sym h)
-
-row-bounds : (r : Row) → fine r ≡ true → Bounds (length (r .bytes)) (r .op)
-unfolding fine
-row-bounds r e =
-    let h =
-    five (leb (r .op .width) (length (r .bytes))) (leb (r .op .kind) (36 * r .op .width)) (leb (r .op .kind) 36)
-    (leb (r .op .level) (6 * r .op .width)) (leb (r .op .level) 6) e in
-    record {
-      inside = leb-true _ _ (h .0);
-      wide = leb-true _ _ (h .1);
-      known = leb-true _ _ (h .2);
-      level = leb-true _ _ (h .3);
-      tight = leb-true _ _ (h .4);
-    }
-
-wider : {m n : ℕ} {r : Op} → m ≤ n → Bounds m r → Bounds n r
-wider h b = record { inside = omega (arith, b .inside); wide = b .wide; known = b .known; level = b .level; tight = b .tight }
-
-picked : (b : Bool) (n : ℕ) {x y : Op} → (b ≡ true → Bounds n x) → Bounds n y → Bounds n (cond b x y)
-picked true n f g = f refl
-picked false n f g = g
-
-among-bounds : (rs : List Row) (xs : List ℕ) → allFine rs ≡ true → Bounds (length xs) (among rs xs)
-unfolding allFine
-among-bounds [] xs e = record { inside = omega arith; wide = omega arith; known = omega arith; level = omega arith; tight = omega arith }
-among-bounds (r ∷ rs) xs e =
-    picked (begins (r .bytes) xs) (length xs)
-    (λ f. wider (begins-most (r .bytes) xs f) (row-bounds r (and-left (fine r) (allFine rs) e)))
-    (among-bounds rs xs (and-right (fine r) (allFine rs) e))
-
+-- the bounds that the contract has, from the table
 pub op-here : (s : List ℕ) (p : ℕ) {r : Op} → r ≡ opAt s p → OpHere s p r
-unfolding opAt allFine fine
 op-here s p e =
-    let b : Bounds (length (drop p s)) (opAt s p) = among-bounds operators (drop p s) refl in
-    rw e (record {
+    let b = op-wide s p in
+    rw e
+    (record {
       is = refl;
-      inside = omega (arith, b .inside, left s p);
+      inside = b .inside;
       wide = b .wide;
-      known = b .known;
-      level = b .level;
-      tight = b .tight;
+      known = leb→le (opAt s p .kind) 36 (op-all (λ o. leb (o .kind) 36) tt s p);
+      level = leb→le (opAt s p .level) (6 * opAt s p .width) (op-all (λ o. leb (o .level) (6 * o .width)) tt s p);
+      tight = leb→le (opAt s p .level) 6 (op-all (λ o. leb (o .level) 6) tt s p);
     })
 
 -- the end of a mark: where its bytes do not stand, where a longer token stands, and where neither is so
@@ -157,13 +105,7 @@ module _ (w : List ℕ) (longer : List (List ℕ)) (s : List ℕ) (p : ℕ) wher
 
   -- a mark ends within the source
   pub marked : {r : ℕ} → r ≡ markTo w longer s p → Ran s p (markTo w longer s p) r
-  marked {r} e = ends (isMark w longer s p) refl
-    where
-      ends : (b : Bool) → isMark w longer s p ≡ b → Ran s p (markTo w longer s p) r
-      ends true f =
-          let g : r ≡ p + length w = e ∙ rw f in
-          record { is = e; low = omega arith; high = omega (arith, stands-inside w s p (and-left (stands w s p) (not (anyOf longer s p)) f)) }
-      ends false f = let g : r ≡ p = e ∙ rw f in record { is = e; low = omega arith; high = omega arith }
+  marked e = let h = mark-ends s p w longer in record { is = e; low = rw e (h .low); high = rw e (h .high) }
 
 -- a byte that must not have another behind it
 pub lone : (a b : ℕ) (s : List ℕ) (p : ℕ) {v : Bool} → a < 256 → stands (a ∷ []) s p ≡ true → stands (b ∷ []) s (p + 1) ≡ v

@@ -1,22 +1,22 @@
 -- Laws on plain strings of equal text: units as they are read, and their bytes one by one.
-use Prim.Native.Nat.{ℕ, zero, suc, _+_, _-_, _*_, _/_, _%_, _≤_, _<_}
-use mathlib.Core.Path.{_≡_, refl, sym, ap, subst, _∙_}
-use mathlib.Core.List.{List, [], _∷_, _++_, append-assoc}
+use Prim.Native.Nat.{ℕ, suc, _+_, _-_, _*_, _/_, _%_, _≤_, _<_}
+use mathlib.Core.Path.{_≡_, refl, sym, ap, _∙_}
+use mathlib.Core.List.{List, [], _∷_, _++_}
 use mathlib.Core.Bool.{Bool, true, false, cond, _&&_, and-true}
 use mathlib.Core.Option.{Option, none, some}
 use native.Mathlib.Omega.{arith}
-use lib.ListN.{length, getD, take, drop}
-use lib.Dec.{leb, ltb, eqb}
+use lib.ListN.{length, drop}
+use lib.Dec.{eqb}
 use borrow.Author.Tests.{eq-eqb, ne-eqb}
 use Rattle.lexis.specs.Bytes.{byteAt}
 use Rattle.lexis.specs.Utf8.{isScalar, encoded}
 use Rattle.lexis.specs.Heredoc.{freshAt}
-use Rattle.lexis.specs.String.{Unit, is, not, quoted, Text, hexes, scalarAs, scalar, escape, marker, unit, unitIn, textAt, packed, pieceOf, UnitHere}
+use Rattle.lexis.specs.String.{Unit, is, not, quoted, Text, hexes, scalarAs, escape, marker, unit, unitIn, textAt, packed, pieceOf, UnitHere}
 use Rattle.lexis.specs.Keys.{Key, plain, other, isQuote, plainAs, stringAt, alike, sameAs}
 use Rattle.lexis.specs.declared.string.Why.{Why}
-use Rattle.lexis.specs.declared.string.Why.the-variants.{Quote, Interpolation, Directive, Escape, Closing, Foreign, End}
+use Rattle.lexis.specs.declared.string.Why.the-variants.{Quote, Interpolation, Directive, Escape}
 use Rattle.lexis.specs.declared.string.Piece.{Piece}
-use Rattle.lexis.proofs.Units.{Bytewise, Fine, Sound, unit-sound, encoded-by}
+use Rattle.lexis.proofs.Units.{Bytewise, Sound, unit-sound, encoded-by}
 use Rattle.lexis.proofs.Texts.{step, stop, bytewise-drop}
 
 -- a list of bytes in one number, the first lowest

@@ -1,17 +1,17 @@
 -- Laws on equal keys: identifiers byte by byte.
-use Prim.Native.Nat.{ℕ, zero, suc, _+_, _-_, _≤_, _<_, min}
-use mathlib.Core.Path.{_≡_, refl, sym, ap, subst, _∙_}
-use mathlib.Core.List.{List, [], _∷_, _++_}
-use mathlib.Core.Bool.{Bool, true, false, cond, not, _&&_, _||_}
+use Prim.Native.Nat.{ℕ, _+_, _-_, _≤_, _<_, min}
+use mathlib.Core.Path.{_≡_, refl, sym, ap, _∙_}
+use mathlib.Core.List.{List, [], _∷_}
+use mathlib.Core.Bool.{Bool, true, false, cond, not, _||_}
 use native.Mathlib.Omega.{arith}
-use lib.ListN.{length, getD, take, drop}
+use lib.ListN.{length, getD, drop}
 use lib.Dec.{eqb}
 use borrow.Author.Tests.{eq-eqb, ne-eqb, eqb-true, eqb-false}
-use Rattle.lexis.specs.Bytes.{byteAt, isStart, isRest, isDigit, run, Byte}
+use Rattle.lexis.specs.Bytes.{byteAt, isStart, isRest, run, Byte}
 use Rattle.lexis.specs.Heredoc.{part}
 use Rattle.lexis.specs.String.{quoted, textAt}
 use Rattle.lexis.specs.Keys.{Key, word, plain, other, isQuote, restOf, stringAt, keyAt, alike, sameAs, sameKey, among, metBefore}
-use Rattle.lexis.proofs.Runs.{next, inside, run-stop, default}
+use Rattle.lexis.specs.RunLaws.{next, inside, run-stop, default}
 use Rattle.lexis.proofs.Lines.{part-next, part-none}
 
 -- the identifier characters from a place on: the first, and those behind it

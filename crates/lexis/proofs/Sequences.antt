@@ -11,7 +11,7 @@ use lib.Dec.{leb, eqb·suc-zero}
 use lib.Seq.{drop-cons, drop-nil, drop-drop}
 use borrow.Author.Tests.{le-leb, lt-leb}
 use Rattle.lexis.specs.Bytes.{byteAt, isWithin}
-use Rattle.lexis.proofs.Runs.{and-left, and-right}
+use Rattle.lexis.specs.RunLaws.{and-left, and-right}
 use Rattle.lexis.specs.Utf8.{Range, _to_, within, Row, tail, table, fits, widthBy, sequence, behindOf, goodAfter, firstBad, Wide}
 
 -- a byte outside a range

@@ -13,7 +13,7 @@ use Rattle.lexis.specs.Bytes.{byteAt, isHex, isDigit, isWithin}
 use Rattle.lexis.specs.Utf8.{isScalar, six, encoded}
 use Rattle.lexis.specs.String.{is, not, hexOf, hexes, scalarOf, scalarAs, scalar, escape, packed, pieceIs, pieceOf, Hex}
 use Rattle.lexis.specs.declared.string.Why.the-variants.{Escape}
-use Rattle.lexis.proofs.Runs.{next, empty, and-left, and-right}
+use Rattle.lexis.specs.RunLaws.{next, empty, and-left, and-right}
 use Rattle.lexis.proofs.Sequences.{over}
 
 -- a unit of given bytes as the code says it

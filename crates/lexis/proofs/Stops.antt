@@ -13,12 +13,12 @@ use borrow.Author.Tests.{eqb-true}
 use Rattle.lexis.specs.Bytes.{byteAt}
 use Rattle.lexis.specs.Utf8.{isScalar, encoded}
 use Rattle.lexis.specs.Heredoc.{closing, freshAt}
-use Rattle.lexis.specs.String.{Mode, quoted, heredoc, Unit, is, not, plain, short, hexes, scalarAs, scalar, escape, marker, unit, lineOr, unitIn, Text, textAt}
+use Rattle.lexis.specs.String.{Mode, quoted, heredoc, Unit, is, not, plain, short, hexes, scalarAs, scalar, escape, marker, unit, lineOr, unitIn, textAt}
 use Rattle.lexis.specs.declared.heredoc.Line.{Line}
 use Rattle.lexis.specs.declared.heredoc.Line.the-variants as line
 use Rattle.lexis.specs.declared.string.Why.{Why}
 use Rattle.lexis.specs.declared.string.Why.the-variants.{Quote, Interpolation, Directive, Escape, Closing, Foreign, End}
-use Rattle.lexis.proofs.Runs.{empty, and-right}
+use Rattle.lexis.specs.RunLaws.{empty, and-right}
 use Rattle.lexis.proofs.Texts.{ind}
 
 -- no unit stands at the end of a run: it is the longest

@@ -18,7 +18,7 @@ use Rattle.lexis.specs.declared.string.Why.{Why}
 use Rattle.lexis.specs.declared.string.Why.the-variants.{Interpolation, Directive, Closing, Foreign, End}
 use Rattle.lexis.specs.declared.string.Piece.{Piece}
 use Rattle.lexis.specs.declared.string.Run.{Run}
-use Rattle.lexis.proofs.Runs.{next, empty, clash, and-right}
+use Rattle.lexis.specs.RunLaws.{next, empty, clash, and-right}
 use Rattle.lexis.proofs.Lines.{fresh-behind}
 use Rattle.lexis.proofs.Spelling.{pack-one, pack-two}
 use Rattle.lexis.proofs.Units.{Fine, Sound, unit-sound, Bytewise}
@@ -90,10 +90,9 @@ module _ (m : Mode) (s : List ℕ) (P : ℕ → Text → Type 0) (none : (i : �
     pub ind : (i : ℕ) → P i (textAt m s i)
     ind i = ind-by (suc (length s - i)) i (omega arith)
 
--- what holds of every run: it is within the source; its text is no longer, and shorter exactly where there is an escape or an escaped marker; with none, its text is
--- the source itself; and its text is bytes
+-- what holds of every run: its text is no longer, and shorter exactly where there is an escape or an escaped marker; with none, its text is the source itself; and
+-- its text is bytes. (It is within the source: specs/TextLaws.antt.)
 pub record Facts (s : List ℕ) (i : ℕ) (t : Text) : Type 0 where
-  pub high : t .width ≤ length s - i
   pub short : length (t .bytes) ≤ t .width
   pub marked : t .escaped ≡ ltb (length (t .bytes)) (t .width)
   pub same : t .escaped ≡ false → t .bytes ≡ take (t .width) (drop i s)
@@ -124,12 +123,11 @@ pub bytewise-drop : (s : List ℕ) (i : ℕ) → Bytewise s → Bytewise (drop i
 bytewise-drop s i h j = rw (getD-drop i s j 0) (h (i + j))
 
 facts-none : (s : List ℕ) (i : ℕ) (y : Why) → Facts s i (ended y)
-facts-none s i y = record { high = omega arith; short = omega arith; marked = refl; same = λ e. refl; low = λ h k. omega arith }
+facts-none s i y = record { short = omega arith; marked = refl; same = λ e. refl; low = λ h k. omega arith }
 
 facts-more : (s : List ℕ) (i w : ℕ) (bs : List ℕ) (e : Bool) (t : Text) → Fine (drop i s) w bs e → Facts s (i + w) t → Facts s i (after w bs e t)
 facts-more s i w bs e t g f =
     record {
-      high = omega (arith, g .high, f .high, length-drop i s);
       short = rw (length-append bs (t .bytes)) (omega (arith, g .few, f .short));
       marked = rw (length-append bs (t .bytes), g .marked, f .marked) (or-ltb (length bs) w (length (t .bytes)) (t .width) (g .few) (f .short));
       same = λ x.

@@ -12,8 +12,9 @@ use borrow.Author.Tests.{ne-eqb, lt-ltb, eqb-true}
 use Rattle.lexis.specs.declared.trivia.Gap.{Gap}
 use Rattle.lexis.specs.declared.trivia.Stop.{Stop}
 use Rattle.lexis.specs.Bytes.{byteAt, isSpace, begins, stands, upTo}
-use Rattle.lexis.specs.Trivia.{ending, endsLine, comment, Item, none, wide, endless, blockAs, closes, block, lineItem, item, endsAt, openAt, placed, passing, gap, gapTo, Ending, Gapped, stopAt, stopComment, lineComment, stopTo}
-use Rattle.lexis.proofs.Runs.{stands-cons, stands-one, stands-two, here, reach, reach-on, front, next, empty, left, clash}
+use Rattle.lexis.specs.Trivia.{ending, endsLine, comment, Item, none, wide, endless, blockAs, closes, block, lineItem, item, endsAt, openAt, placed, gap, gapTo, Ending, Gapped, stopAt, stopComment, lineComment, stopTo}
+use Rattle.lexis.specs.RunLaws.{stands-cons, stands-one, stands-two, here, reach, reach-on, front, next, empty, left}
+use Rattle.lexis.specs.TriviaLaws.{item-nil, comment-end, gap-low, gap-high, gap-inside}
 
 -- the width of a line comment with its ending
 abbrev width : List ℕ → ℕ
@@ -74,11 +75,7 @@ module _ (s : List ℕ) (p : ℕ) where
   comment-cut {i} h e = sym (comment-at s p e ∙ rw (empty s i))
 
   comment-ends : {e : Stop} → e ≡ lineComment p (drop p s) → e .at ≡ p + width (drop p s)
-  comment-ends h = rw h (stop-place (p + comment (drop p s)) (ending (drop (comment (drop p s)) (drop p s))) ∙ omega arith)
-    where
-      stop-place : (a n : ℕ) → (stopComment a n) .at ≡ a + n
-      stop-place a zero = omega arith
-      stop-place a (suc n) = refl
+  comment-ends h = rw h (comment-end p (drop p s) ∙ omega arith)
 
   -- the code's width of a line ending, as a test
   pub line-ends : {w : ℕ} → Ending s p w → (w ≡ 0 → ⊥) → endsLine (drop p s) ≡ true
@@ -187,11 +184,6 @@ gap-pass lines p zero xs h = rw add-zero
 gap-pass lines p (suc n) [] h = absurd (omega arith)
 gap-pass lines p (suc n) (x ∷ xs) h = gap-pass lines (suc p) n xs (omega arith) ∙ ap (λ (q : ℕ). gap lines q 0 (drop n xs)) (omega arith)
 
-item-nil : (lines : Bool) → item lines [] ≡ none
-unfolding item begins upTo
-item-nil true = refl
-item-nil false = refl
-
 -- where the item at i ends at i, trivia ends there; where it ends behind i, trivia goes on from its end
 stop-as : (lines : Bool) (i : ℕ) (xs : List ℕ) (x : Item) → item lines xs ≡ x → (placed i x) .at ≡ i → gap lines i 0 xs ≡ placed i x
 unfolding gap
@@ -223,86 +215,6 @@ module _ (lines : Bool) (s : List ℕ) (i : ℕ) {g : Gap} (is : g ≡ placed i 
       rw (at, drop-drop (g .at - i) i s, back) at
       (on-as lines i (drop i s) (item lines (drop i s)) refl (λ f. n (sym at ∙ f)) (omega (arith, left s i, at)))
 
--- trivia ends within the source, and an unclosed comment starts before its end
-abbrev Within : ℕ → ℕ → Gap → Type 0
-Within p n g = (p ≤ g .at) × (g .at ≤ p + n) × (g .unclosed ≡ true → g .at < p + n)
-
-passing-within : (p n : ℕ) (on : ℕ → Gap) (x : Item) → ((k : ℕ) → Within (suc p) n (on k)) → Within p (suc n) (passing p on x)
-passing-within p n on none h = (omega arith, omega arith, λ e. clash (sym e))
-passing-within p n on (wide zero) h = (omega arith, omega arith, λ e. clash (sym e))
-passing-within p n on (wide (suc k)) h = (omega (arith, h k .0), omega (arith, h k .1), λ e. omega (arith, h k .2 e))
-passing-within p n on endless h = (omega arith, omega arith, λ e. omega arith)
-
-gap-within : (lines : Bool) (p n : ℕ) (xs : List ℕ) → Within p (length xs) (gap lines p n xs)
-unfolding gap
-gap-within lines p n [] = (omega arith, omega arith, λ e. clash (sym e))
-gap-within lines p (suc n) (x ∷ xs) =
-    let w : Within (suc p) (length xs) (gap lines (suc p) n xs) = gap-within lines (suc p) n xs in
-    (omega (arith, w .0), omega (arith, w .1), λ e. omega (arith, w .2 e))
-gap-within lines p zero (x ∷ xs) = passing-within p (length xs) (λ n. gap lines (suc p) n xs) (item lines (x ∷ xs)) (λ n. gap-within lines (suc p) n xs)
-
-pub gap-low : (lines : Bool) (s : List ℕ) (p : ℕ) → p ≤ (gapTo lines s p) .at
-gap-low lines s p = gap-within lines p 0 (drop p s) .0
-
-pub gap-high : (lines : Bool) (s : List ℕ) (p : ℕ) → (gapTo lines s p) .at ≤ p + (length s - p)
-gap-high lines s p = omega (arith, gap-within lines p 0 (drop p s) .1, left s p)
-
-pub gap-inside : (lines : Bool) (s : List ℕ) (p : ℕ) → (gapTo lines s p) .unclosed ≡ true → suc ((gapTo lines s p) .at) ≤ length s
-gap-inside lines s p e = omega (arith, gap-within lines p 0 (drop p s) .2 e, gap-low lines s p, left s p)
-
 pub gapped : {lines : Bool} {s : List ℕ} {p : ℕ} (g : Gap) → g ≡ gapTo lines s p → Gapped lines s p g
 gapped {lines} {s} {p} g e =
-    record { is = e; low = rw e (gap-low lines s p); high = rw e (gap-high lines s p); inside = rw e (gap-inside lines s p) }
-
--- Trivia taken in two goes. Where the items of the mode l are items of the mode m, the trivia of m from the end of the trivia of l is that of m from
--- the start
-module _ (l m : Bool) (same : (xs : List ℕ) (n : ℕ) → item l xs ≡ wide n → item m xs ≡ wide n) where
-  -- one byte of an item is passed
-  past : (p a n : ℕ) (x : ℕ) (xs : List ℕ) → suc p ≤ a
-      → gap m a 0 (drop (a - suc p) xs) ≡ gap m (suc p) n xs → gap m a 0 (drop (a - p) (x ∷ xs)) ≡ gap m (suc p) n xs
-  past p a n x xs h e = let f : a - p ≡ suc (a - suc p) = omega arith in rw f e
-
-  passed : (p n x : ℕ) (xs : List ℕ) → item m (x ∷ xs) ≡ wide (suc n) → gap m (suc p) n xs ≡ gap m p 0 (x ∷ xs)
-  unfolding gap
-  passed p n x xs e = rw e
-
-  -- no item is passed
-  stays : (p : ℕ) (xs : List ℕ) → gap m p 0 (drop (p - p) xs) ≡ gap m p 0 xs
-  stays p xs = let f : p - p ≡ 0 = omega arith in rw f
-
-  after-as : (p : ℕ) (x : ℕ) (xs : List ℕ) (y : Item) → item l (x ∷ xs) ≡ y
-      → ((n : ℕ) → gap m ((gap l (suc p) n xs) .at) 0 (drop ((gap l (suc p) n xs) .at - suc p) xs) ≡ gap m (suc p) n xs)
-      → gap m ((passing p (λ n. gap l (suc p) n xs) y) .at) 0 (drop ((passing p (λ n. gap l (suc p) n xs) y) .at - p) (x ∷ xs)) ≡ gap m p 0 (x ∷ xs)
-  after-as p x xs none e h = stays p (x ∷ xs)
-  after-as p x xs endless e h = stays p (x ∷ xs)
-  after-as p x xs (wide zero) e h = stays p (x ∷ xs)
-  after-as p x xs (wide (suc n)) e h = past p ((gap l (suc p) n xs) .at) n x xs (gap-within l (suc p) n xs .0) (h n) ∙ passed p n x xs (same (x ∷ xs) (suc n) e)
-
-  after : (p n : ℕ) (xs : List ℕ) → gap m ((gap l p n xs) .at) 0 (drop ((gap l p n xs) .at - p) xs) ≡ gap m p n xs
-  unfolding gap
-  after p n [] = let f : p - p ≡ 0 = omega arith in rw f
-  after p (suc n) (x ∷ xs) = past p ((gap l (suc p) n xs) .at) n x xs (gap-within l (suc p) n xs .0) (after (suc p) n xs)
-  after p zero (x ∷ xs) = after-as p x xs (item l (x ∷ xs)) refl (λ n. after (suc p) n xs)
-
-  after-to : (s : List ℕ) (p : ℕ) → gapTo m s ((gapTo l s p) .at) ≡ gapTo m s p
-  after-to s p =
-      let back : p + ((gapTo l s p) .at - p) ≡ (gapTo l s p) .at = omega (arith, gap-low l s p) in
-      rw (drop-drop ((gapTo l s p) .at - p) p s, back) at (after p 0 (drop p s))
-
--- what is an item of one line is one of several lines
-lines-as : (a b : Bool) (x y : Item) (n : ℕ) → cond a (wide 1) (cond b x none) ≡ wide n → cond a (wide 1) (cond b x y) ≡ wide n
-lines-as true b x y n e = e
-lines-as false true x y n e = e
-lines-as false false x y n e = let z : _≡_ {A = ℕ} 0 1 = cc in absurd (omega arith)
-
-item-lines : (xs : List ℕ) (n : ℕ) → item false xs ≡ wide n → item true xs ≡ wide n
-unfolding item
-item-lines xs n e = lines-as (isSpace (byteAt xs 0)) (begins (47 ∷ 42 ∷ []) xs) (block (drop 2 xs)) (lineItem xs) n e
-
--- THEOREM: the end of trivia is a fixed place: from there, trivia ends there
-pub gap-again : (lines : Bool) (s : List ℕ) (p : ℕ) → gapTo lines s ((gapTo lines s p) .at) ≡ gapTo lines s p
-gap-again lines s p = after-to lines lines (λ xs n e. e) s p
-
--- THEOREM: any trivia from the end of same-line space is any trivia from its start
-pub gap-lines : (s : List ℕ) (p : ℕ) → gapTo true s ((gapTo false s p) .at) ≡ gapTo true s p
-gap-lines s p = after-to false true item-lines s p
+    record { is = e; low = rw e (gap-low s p lines); high = rw e (gap-high s p lines); inside = rw e (gap-inside s p lines) }

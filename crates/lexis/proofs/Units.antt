@@ -15,7 +15,7 @@ use Rattle.lexis.specs.String.{Unit, is, not, plain, short, hexOf, hexes
 use Rattle.lexis.specs.declared.string.Why.{Why}
 use Rattle.lexis.specs.declared.string.Why.the-variants.{Quote, Interpolation, Directive, Escape, End}
 use Rattle.lexis.specs.declared.string.Piece.{Piece}
-use Rattle.lexis.proofs.Runs.{next, empty, front, here, default, clash, and-right}
+use Rattle.lexis.specs.RunLaws.{next, empty, front, here, default, clash, and-right}
 
 -- a marker by the bytes behind it
 module _ (y : Why) (b c d : ℕ) where

@@ -6,6 +6,7 @@ use mathlib.Core.Bool.{Bool, true, false, cond, _&&_}
 use lib.ListN.{length, take, drop}
 use lib.Dec.{eqb}
 use Rattle.lexis.specs.Bytes.{byteAt, isSpace, isStart, isRest, isForeign, run, begins}
+use Rattle.lexis.specs.Trivia.{ending}
 use Rattle.lexis.specs.Word.{identTo}
 use Rattle.lexis.specs.declared.heredoc.Line.{Line}
 use Rattle.lexis.specs.declared.heredoc.Line.the-variants.{Text, Closes, Foreign}
@@ -41,9 +42,9 @@ abbrev pub freshAt : List ℕ → ℕ → Bool
 freshAt s zero = false
 freshAt s (suc p) = eqb (byteAt s p) 10
 
--- the width of the line ending at p: LF or CRLF; 0 where none stands
+-- the width of the line ending at p; 0 where none stands
 abbrev pub lineEnd : List ℕ → ℕ → ℕ
-lineEnd s p = cond (eqb (byteAt s p) 10) 1 (cond (eqb (byteAt s p) 13 && eqb (byteAt s (p + 1)) 10) 2 0)
+lineEnd s p = ending (drop p s)
 
 abbrev pub fails : ℕ → Opener
 fails p = record { good = false; dash = false; from = 0; to = 0; at = p }

@@ -1,8 +1,7 @@
 -- Small sources, and keys in them that are equal or not, by computation.
-use Prim.Native.Nat.{ℕ}
 use mathlib.Core.Path.{_≡_, refl}
-use mathlib.Core.List.{List, [], _∷_}
-use mathlib.Core.Bool.{Bool, true, false}
+use mathlib.Core.List.{[], _∷_}
+use mathlib.Core.Bool.{true, false}
 use Rattle.lexis.specs.Bytes.{run}
 use Rattle.lexis.specs.Utf8.{encoded}
 use Rattle.lexis.specs.String.{unit, escape, hexes, textAfter}

@@ -79,7 +79,7 @@ openersShown :
     ∷ openerAt (60 ∷ []) 0
     ∷ []
     ≡ opens false 2 3 4 ∷ opens true 3 4 6 ∷ fails 2 ∷ fails 3 ∷ fails 3 ∷ fails 0 ∷ []
-unfolding openerAt run
+unfolding openerAt run begins
 openersShown = refl
 
 -- `a,a,ab`; `"a","\u0061",a`; `"$${","\u0024{"`

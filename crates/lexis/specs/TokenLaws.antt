@@ -1,5 +1,5 @@
 -- Laws on tokens: where each ends. An end that is not p is past p, so the token stands within the source.
-use Prim.Native.Nat.{ℕ, _+_, _*_, _-_, _≤_}
+use Prim.Native.Nat.{ℕ, _+_, _*_, _-_, _≤_, _<_}
 use mathlib.Core.Path.{_≡_, refl}
 use mathlib.Core.List.{List, [], _∷_}
 use mathlib.Core.Bool.{Bool, true, false, cond, not, _&&_, _||_}
@@ -7,12 +7,13 @@ use native.Mathlib.Omega.{arith}
 use lib.ListN.{length, drop}
 use lib.Dec.{eqb, leb, leb→le, T}
 use Rattle.lexis.specs.declared.operator.Op.{Op}
-use Rattle.lexis.specs.Bytes.{byteAt, isDigit, isStart, isRest, run, runTo, begins, stands}
-use Rattle.lexis.specs.Word.{identTo, isWord, for′, endsFor, forTo}
+use Rattle.lexis.specs.Bytes.{byteAt, isDigit, isStart, isRest, runTo, begins, stands}
+use Rattle.lexis.specs.Word.{identTo, isWord, wordTo, for′, endsFor, forTo}
 use Rattle.lexis.specs.Number.{digitsTo, fractionTo, signTo, exponentTo, numberTo, indexTo}
-use Rattle.lexis.specs.Operator.{Row, noOp, operators, among, opAt, anyOf, isMark}
+use Rattle.lexis.specs.Operator.{Row, noOp, operators, among, opAt, anyOf, isMark, markTo}
 use Rattle.lexis.specs.Heredoc.{lineEnd}
-use Rattle.lexis.specs.RunLaws.{inside, left, and-left, and-right, run-high, begins-most, stands-inside}
+use Rattle.lexis.specs.TriviaLaws.{ending-most}
+use Rattle.lexis.specs.RunLaws.{inside, left, and-left, and-right, run-high, run-on, begins-most, stands-inside}
 
 -- e is an end that may be reached from p: not before p, within the source where p is, and p itself where p is not
 pub record Within (s : List ℕ) (p e : ℕ) : Type 0 where
@@ -92,15 +93,8 @@ module _ (s : List ℕ) where
         (λ e. stays p)
 
     -- a line ending
-    end-within : (a b : Bool) → eqb (byteAt s p) 10 ≡ a → (eqb (byteAt s p) 13 && eqb (byteAt s (p + 1)) 10) ≡ b → Within s p (p + cond a 1 (cond b 2 0))
-    end-within true b e f = let h = inside (λ x. eqb x 10) s p refl e in takes p 1 (omega arith)
-    end-within false true e f =
-        let h = inside (λ x. eqb x 10) s (p + 1) refl (and-right (eqb (byteAt s p) 13) (eqb (byteAt s (p + 1)) 10) f) in
-        takes p 2 (omega arith)
-    end-within false false e f = takes p 0 (omega arith)
-
     pub line-within : Within s p (p + lineEnd s p)
-    line-within = end-within (eqb (byteAt s p) 10) (eqb (byteAt s p) 13 && eqb (byteAt s (p + 1)) 10) refl refl
+    line-within = takes p (lineEnd s p) (omega (arith, ending-most (drop p s), left s p))
 
     -- words and marks
     pub word-within : (w : List ℕ) → isWord w s p ≡ true → Within s p (p + length w)
@@ -108,6 +102,37 @@ module _ (s : List ℕ) where
 
     pub mark-within : (w : List ℕ) (longer : List (List ℕ)) → isMark w longer s p ≡ true → Within s p (p + length w)
     mark-within w longer e = takes p (length w) (stands-inside w s p (and-left (stands w s p) (not (anyOf longer s p)) e))
+
+    pub word-ends : (w : List ℕ) → Within s p (wordTo w s p)
+    word-ends w = if-within (isWord w s p) (word-within w) (λ e. stays p)
+
+    pub mark-ends : (w : List ℕ) (longer : List (List ℕ)) → Within s p (markTo w longer s p)
+    mark-ends w longer = if-within (isMark w longer s p) (mark-within w longer) (λ e. stays p)
+
+    -- a token that stands is not empty
+    pub ident-on : isStart (byteAt s p) ≡ true → p < identTo s p
+    ident-on e = rw e (omega arith)
+
+    digits-on : isDigit (byteAt s p) ≡ true → p < digitsTo s p
+    digits-on e = omega (arith, run-on isDigit s p (inside isDigit s p refl e) e)
+
+    pub number-on : isDigit (byteAt s p) ≡ true → p < numberTo s p
+    number-on e =
+        rw e
+        (omega (arith, digits-on e, fraction-within (digitsTo s p) .low, exponent-within (fractionTo s (digitsTo s p)) .low))
+
+    pub index-on : isDigit (byteAt s p) ≡ true → p < indexTo s p
+    index-on e = first (eqb (byteAt s p) 48)
+      where
+        first : (b : Bool) → p < cond b (p + 1) (digitsTo s p)
+        first true = omega arith
+        first false = digits-on e
+
+    pub word-on : (w : List ℕ) → isWord w s p ≡ true → 1 ≤ length w → p < wordTo w s p
+    word-on w e h = rw e (omega arith)
+
+    pub mark-on : (w : List ℕ) (longer : List (List ℕ)) → isMark w longer s p ≡ true → 1 ≤ length w → p < markTo w longer s p
+    mark-on w longer e h = rw e (omega arith)
 
 -- ---- operators
 

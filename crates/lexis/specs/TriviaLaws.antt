@@ -228,7 +228,8 @@ comment-place : (a n : ℕ) → stopComment a n .at ≡ a + n
 comment-place a zero = omega arith
 comment-place a (suc n) = refl
 
-comment-end : (p : ℕ) (xs : List ℕ) → lineComment p xs .at ≡ p + comment xs + ending (drop (comment xs) xs)
+-- where a line comment ends, with its line ending
+pub comment-end : (p : ℕ) (xs : List ℕ) → lineComment p xs .at ≡ p + comment xs + ending (drop (comment xs) xs)
 comment-end p xs = comment-place (p + comment xs) (ending (drop (comment xs) xs))
 
 -- a comma, a line ending or a line comment stands there

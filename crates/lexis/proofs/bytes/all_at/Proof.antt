@@ -1,6 +1,7 @@
 -- The loop keeps that what is left of w stands behind what was passed.
 use Prim.Native.Nat.{_≤_, _+_, _-_}
-use Rattle.lexis.proofs.Runs.{all-start, all-more, all-end, all-fails, stands-inside}
+use Rattle.lexis.specs.RunLaws.{stands-inside}
+use Rattle.lexis.proofs.Runs.{all-start, all-more, all-end, all-fails}
 use Rattle.lexis.specs.Bytes.{stands}
 use borrow.Author.Needs.{needs}
 use borrow.Author.Tests.{not-true, not-false}

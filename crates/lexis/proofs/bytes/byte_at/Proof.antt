@@ -1,6 +1,6 @@
 -- `byte_at` gives the byte at p, or 256 past the end.
 use Prim.Native.Nat.{ℕ}
-use Rattle.lexis.proofs.Runs.{default}
+use Rattle.lexis.specs.RunLaws.{default}
 use borrow.Author.Needs.{needs}
 use lib.ListN.{List·getD-eq-default}
 use mathlib.Core.Path.{sym}

@@ -1,4 +1,4 @@
-use Rattle.lexis.proofs.Runs.{or-yes, or-no}
+use Rattle.lexis.specs.RunLaws.{or-yes, or-no}
 use borrow.Author.Needs.{needs}
 use mathlib.Core.Path.{refl}
 use Rattle.lexis.proofs.bytes.is_start.Statement.{statement}

@@ -1,4 +1,4 @@
-use Rattle.lexis.proofs.Runs.{stands-here, stands-past}
+use Rattle.lexis.specs.RunLaws.{stands-here, stands-past}
 use borrow.Author.Needs.{needs}
 use borrow.Author.Tests.{le-ltb}
 use mathlib.Core.List.{[]}

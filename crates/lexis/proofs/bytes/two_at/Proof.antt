@@ -1,4 +1,4 @@
-use Rattle.lexis.proofs.Runs.{stands-inside, stands-on, stands-off}
+use Rattle.lexis.specs.RunLaws.{stands-inside, stands-on, stands-off}
 use borrow.Author.Needs.{needs}
 use mathlib.Core.List.{[], _∷_}
 use mathlib.Core.Path.{sym, _∙_}

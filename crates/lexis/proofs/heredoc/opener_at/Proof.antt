@@ -1,11 +1,10 @@
 -- The two bytes of the opener, then perhaps a dash, then the delimiter.
 use Prim.Native.Nat.{_+_}
-use mathlib.Core.Path.{_≡_, sym, _∙_}
+use mathlib.Core.Path.{sym, _∙_}
 use mathlib.Core.List.{[], _∷_}
-use mathlib.Core.Bool.{Bool, true, false}
 use borrow.Author.Tests.{not-true, not-false}
 use native.Mathlib.Omega.{arith}
-use Rattle.lexis.proofs.Runs.{stands-inside}
+use Rattle.lexis.specs.RunLaws.{stands-inside}
 use Rattle.lexis.proofs.Openers.{open-none, open-plain, open-dash}
 use borrow.Author.Needs.{needs}
 use Rattle.lexis.proofs.heredoc.opener_at.Statement.{statement}

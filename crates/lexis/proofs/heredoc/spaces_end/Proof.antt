@@ -3,7 +3,7 @@ use mathlib.Core.Path.{_≡_, refl, sym, ap, _∙_}
 use native.Mathlib.Omega.{arith}
 use lib.ListN.{length}
 use Rattle.lexis.specs.Bytes.{isSpace, runTo}
-use Rattle.lexis.proofs.Runs.{run-on, run-stop, inside}
+use Rattle.lexis.specs.RunLaws.{run-on, run-stop, inside}
 use borrow.Author.Needs.{needs}
 use Rattle.lexis.proofs.heredoc.spaces_end.Statement.{statement}
 use Rattle.lexis.proofs.heredoc.spaces_end.Tie as tie

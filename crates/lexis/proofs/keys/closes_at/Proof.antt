@@ -1,7 +1,6 @@
 -- No unit stands there, and the quote is why.
 use native.Mathlib.Omega.{arith}
-use mathlib.Core.Path.{_≡_, refl, sym, ap, _∙_}
-use Rattle.lexis.specs.Keys.{isQuote}
+use mathlib.Core.Path.{sym, _∙_}
 use Rattle.lexis.proofs.SameTexts.{closes-not, closes-by}
 use borrow.Author.Needs.{needs}
 use Rattle.lexis.proofs.keys.closes_at.Statement.{statement}

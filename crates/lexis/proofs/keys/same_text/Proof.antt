@@ -1,6 +1,6 @@
 -- Each turn reads a unit of one side or compares a byte of both; the units that are unread, and then the bytes that are left, grow fewer.
-use Prim.Native.Nat.{ℕ, _+_, _*_, _-_}
-use mathlib.Core.Path.{_≡_, refl, sym, ap, _∙_}
+use Prim.Native.Nat.{_+_, _*_, _-_}
+use mathlib.Core.Path.{sym, _∙_}
 use native.Mathlib.Omega.{arith}
 use lib.ListN.{length}
 use borrow.Author.Tests.{not-true, not-false}

@@ -1,6 +1,7 @@
 -- The loop keeps the end of the run of digits.
 use Prim.Native.Nat.{_≤_, _+_, _-_}
-use Rattle.lexis.proofs.Runs.{inside, run-on, run-stop, tested}
+use Rattle.lexis.specs.RunLaws.{inside, run-on, run-stop}
+use Rattle.lexis.proofs.Runs.{tested}
 use Rattle.lexis.specs.Bytes.{isDigit, runTo}
 use borrow.Author.Needs.{needs}
 use borrow.Author.Tests.{not-true, not-false}

@@ -1,5 +1,6 @@
 use Rattle.lexis.proofs.Numbers.{no-digit, a-digit, no-exponent, exponent}
-use Rattle.lexis.proofs.Runs.{inside, tested}
+use Rattle.lexis.specs.RunLaws.{inside}
+use Rattle.lexis.proofs.Runs.{tested}
 use Rattle.lexis.specs.Number.{isExponent}
 use borrow.Author.Needs.{needs}
 use borrow.Author.Tests.{not-true, not-false}

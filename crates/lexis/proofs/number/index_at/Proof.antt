@@ -1,7 +1,8 @@
 -- The loop keeps the end of the digits and their value: v is the value of those passed, those left follow it, and c is the byte at i.
 use Prim.Native.Nat.{ℕ, _≤_, _+_, _*_, _-_}
 use Rattle.lexis.proofs.Numbers.{digits, digit-low, digit-high, index-zero, index-ends, index-more, index-over, over-by}
-use Rattle.lexis.proofs.Runs.{inside, tested, run-on}
+use Rattle.lexis.specs.RunLaws.{inside, run-on}
+use Rattle.lexis.proofs.Runs.{tested}
 use Rattle.lexis.specs.Bytes.{isDigit, Byte}
 use Rattle.lexis.specs.Number.{digitsTo, limit, value, valueFrom}
 use borrow.Author.Needs.{needs}

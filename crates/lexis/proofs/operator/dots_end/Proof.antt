@@ -1,5 +1,5 @@
 use Rattle.lexis.proofs.Operators.{mark-off, mark-by, marked}
-use Rattle.lexis.proofs.Runs.{stands-inside}
+use Rattle.lexis.specs.RunLaws.{stands-inside}
 use borrow.Author.Needs.{needs}
 use mathlib.Core.List.{[], _∷_}
 use mathlib.Core.Path.{refl, sym, _∙_}

@@ -1,5 +1,5 @@
 use Rattle.lexis.proofs.Operators.{mark-off, marked, lone}
-use Rattle.lexis.proofs.Runs.{stands-inside}
+use Rattle.lexis.specs.RunLaws.{stands-inside}
 use borrow.Author.Needs.{needs}
 use borrow.Author.Tests.{not-true, not-false}
 use mathlib.Core.List.{[], _∷_}

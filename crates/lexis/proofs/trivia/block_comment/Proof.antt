@@ -1,6 +1,6 @@
 -- The loop keeps the place that the comment's text reaches.
 use Prim.Native.Nat.{_≤_, _+_, _-_}
-use Rattle.lexis.proofs.Runs.{reach, reach-on, reach-stop, reach-end, stands-inside}
+use Rattle.lexis.specs.RunLaws.{reach, reach-on, reach-stop, reach-end, stands-inside}
 use Rattle.lexis.proofs.Trivias.{block-found, block-endless}
 use Rattle.lexis.specs.Trivia.{closes}
 use borrow.Author.Needs.{needs}

@@ -1,6 +1,6 @@
 -- The width of a line ending, from the byte at p and the one after it.
 use Prim.Native.Nat.{_+_}
-use Rattle.lexis.proofs.Runs.{stands-inside, here}
+use Rattle.lexis.specs.RunLaws.{stands-inside, here}
 use Rattle.lexis.proofs.Trivias.{ending-lf, ending-cr, ending-none}
 use borrow.Author.Needs.{needs}
 use mathlib.Core.List.{[], _∷_}

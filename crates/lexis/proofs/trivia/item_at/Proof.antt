@@ -1,5 +1,6 @@
 -- The item at p, from its first byte.
-use Rattle.lexis.proofs.Runs.{inside, tested}
+use Rattle.lexis.specs.RunLaws.{inside}
+use Rattle.lexis.proofs.Runs.{tested}
 use Rattle.lexis.proofs.Trivias.{item-space, item-single, item-hash, item-ending, comment-hash}
 use Rattle.lexis.specs.Bytes.{isSpace}
 use Rattle.lexis.specs.Trivia.{placed}

@@ -1,6 +1,6 @@
 -- The loop keeps the place that the comment's text reaches.
 use Prim.Native.Nat.{_≤_, _+_, _-_}
-use Rattle.lexis.proofs.Runs.{reach, reach-on, reach-stop, reach-end}
+use Rattle.lexis.specs.RunLaws.{reach, reach-on, reach-stop, reach-end}
 use Rattle.lexis.proofs.Trivias.{comment-ended, comment-cut, line-on, line-ends}
 use Rattle.lexis.specs.Trivia.{endsLine}
 use borrow.Author.Needs.{needs}

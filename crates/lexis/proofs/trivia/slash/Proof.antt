@@ -1,5 +1,5 @@
 -- What starts with a slash, from the byte after it.
-use Rattle.lexis.proofs.Runs.{here}
+use Rattle.lexis.specs.RunLaws.{here}
 use Rattle.lexis.proofs.Trivias.{item-block, item-slash, item-slashes, item-comment, comment-slashes}
 use Rattle.lexis.specs.Trivia.{placed}
 use borrow.Author.Needs.{needs}

@@ -1,6 +1,6 @@
 -- What ends an item, from its first byte.
 use Prim.Native.Nat.{_+_}
-use Rattle.lexis.proofs.Runs.{here}
+use Rattle.lexis.specs.RunLaws.{here}
 use Rattle.lexis.proofs.Trivias.{stop-comma, stop-hash, stop-slash, stop-slashes, comment-hash, comment-slashes, stop-line, stop-none}
 use borrow.Author.Needs.{needs}
 use mathlib.Core.Path.{sym, _∙_}

@@ -1,4 +1,5 @@
-use Rattle.lexis.proofs.Runs.{stands-inside, tested}
+use Rattle.lexis.specs.RunLaws.{stands-inside}
+use Rattle.lexis.proofs.Runs.{tested}
 use Rattle.lexis.specs.Word.{for′, endsFor}
 use borrow.Author.Needs.{needs}
 use borrow.Author.Tests.{not-true, not-false}

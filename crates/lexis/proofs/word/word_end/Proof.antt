@@ -1,4 +1,5 @@
-use Rattle.lexis.proofs.Runs.{stands-inside, tested}
+use Rattle.lexis.specs.RunLaws.{stands-inside}
+use Rattle.lexis.proofs.Runs.{tested}
 use Rattle.lexis.proofs.Words.{word-off, word-on}
 use Rattle.lexis.specs.Bytes.{isRest}
 use borrow.Author.Needs.{needs}

@@ -1,0 +1,6 @@
+pub mod Tables
+pub mod Children
+pub mod Steps
+pub mod Leaves
+pub mod Walks
+pub mod Callings
