@@ -1,0 +1,4 @@
+pub mod Buffer
+pub mod Said
+pub mod Text
+pub mod Items

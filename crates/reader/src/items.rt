@@ -1,0 +1,147 @@
+// What stands round an object's items: the end of one, the sign after a key, and the keys that may be compared.
+use crate::put::put;
+use grammar::kinds::Kind;
+use grammar::kinds::Refusal;
+use grammar::moves::Went;
+use grammar::moves::refused;
+use grammar::moves::space;
+use grammar::moves::unexpected;
+use grammar::picks::key_end;
+use grammar::picks::lone;
+use lexis::bytes::byte_at;
+use lexis::bytes::is_start;
+use lexis::bytes::one_at;
+use lexis::keys::met_before;
+use lexis::operator::equals_end;
+use lexis::trivia::Stop;
+use lexis::trivia::skip_line;
+use lexis::trivia::terminator;
+use lexis::word::constant_at;
+ghost use mathlib.Core.Path.{_≡_};
+ghost use mathlib.Core.Bool.{_&&_};
+ghost use lib.Dec.{eqb};
+ghost use Rattle.lexis.specs.Keys.{metBefore};
+ghost use Rattle.grammar.specs.Moves.{behindKey};
+ghost use Rattle.reader.specs.Items.{Behind, SignedAt, Keeping, Keeps, Baring, bared};
+
+// What stands behind an item that ends at e: past what ends it and any trivia, the place of the next item or of the `}`.
+pub fn behind(s: &[u8], e: usize) -> Went
+    ensures { λ r. ⌜ Behind (now (s .entry)) e r ⌝ }
+{
+    let g = space(s, e, false);
+    let at = g.at;
+    if g.kind != 0 {
+        return g;
+    }
+    if one_at(s, at, 125) {
+        return g;
+    }
+    let x = terminator(s, at);
+    let end = x.at;
+    if x.how == Stop::NONE {
+        return unexpected(s, at);
+    }
+    if x.how == Stop::CUT {
+        return refused(Refusal::UNEXPECTED, end);
+    }
+    space(s, end, true)
+}
+
+// The sign after a key: kind 0, where it ends, and 1 for `:`; or the refusal and its place.
+pub struct Sign {
+    pub kind: u8,
+    pub at: usize,
+    pub flag: usize,
+}
+
+// Whether the key at p is the token that stands before g alone, and was met before.
+fn is_met(s: &[u8], keys: &[u16], first: usize, k: usize, p: usize, g: usize) -> bool
+    ensures { λ r. ⌜ r ≡ (eqb (behindKey (now (s .entry)) p) g && metBefore (now (s .entry)) (now (keys .entry)) first k p) ⌝ }
+{
+    let b = byte_at(s, p);
+    // only words and strings are compared
+    if b != 34 {
+        if !is_start(b) {
+            return false;
+        }
+    }
+    let e = key_end(s, p);
+    let w = skip_line(s, e);
+    if w.at != g {
+        return false;
+    }
+    met_before(s, keys, first, k, p)
+}
+
+// The sign after the key from p to e, whose object has the earlier keys from the first-th to before the k-th.
+pub fn sign_at(s: &[u8], keys: &[u16], first: usize, k: usize, p: usize, e: usize) -> Sign
+    ensures { λ r. ⌜ SignedAt (now (s .entry)) (now (keys .entry)) first k p e r ⌝ }
+{
+    let g = space(s, e, false);
+    let at = g.at;
+    if g.kind != 0 {
+        return Sign {
+            kind: g.kind,
+            at: at,
+            flag: 0,
+        };
+    }
+    if is_met(s, keys, first, k, p, at) {
+        return Sign {
+            kind: Refusal::DUPLICATE,
+            at: p,
+            flag: 0,
+        };
+    }
+    let q = equals_end(s, at);
+    if q != at {
+        return Sign {
+            kind: 0,
+            at: q,
+            flag: 0,
+        };
+    }
+    if one_at(s, at, 58) {
+        return Sign {
+            kind: 0,
+            at: at + 1,
+            flag: 1,
+        };
+    }
+    let w = unexpected(s, at);
+    Sign {
+        kind: w.kind,
+        at: w.at,
+        flag: 0,
+    }
+}
+
+// The item that starts at q is the next of its object: its start stands at `top` in `keys` where its key may be compared. Where the next is put.
+pub fn keep(s: &[u8], keys: &mut [u16], top: usize, q: usize) -> usize
+    requires { ⌜ Keeping (now keys) top q ⌝ }
+    ensures { λ r. ⌜ Keeps (now (s .entry)) (now (keys .entry)) (now (keys .exit)) top q r ⌝ }
+{
+    if !lone(s, q) {
+        return top;
+    }
+    keys[top] = q as u16;
+    top + 1
+}
+
+// The key from p to e, whose n records begin at the i-th: where it is a lone variable, its record is put anew.
+pub fn bare(s: &[u8], nodes: &mut [u16], i: usize, n: usize, p: usize, e: usize)
+    requires { ⌜ Baring p e ⌝ }
+    ensures { λ _. ⌜ now (nodes .exit) ≡ bared (now (s .entry)) (now (nodes .entry)) i n p e ⌝ }
+{
+    if n != 1 {
+        return;
+    }
+    let b = byte_at(s, p);
+    if !is_start(b) {
+        return;
+    }
+    if constant_at(s, p) != 0 {
+        return;
+    }
+    put(nodes, i, Kind::KEY, 0, p as u16, e as u16, 1, 0, 0);
+}
