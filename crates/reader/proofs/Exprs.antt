@@ -34,7 +34,7 @@ use Rattle.reader.proofs.Answers.{good, from-good, refused, pass, kept-
 
 -- ---- a production that stands first, as an answer
 
-step-is : (r : Step) {e n t : ℕ} → r ≡ stepOf 0 e n t → r ≡ stepOf 0 (r .end) (r .count) (r .text)
+pub step-is : (r : Step) {e n t : ℕ} → r ≡ stepOf 0 e n t → r ≡ stepOf 0 (r .end) (r .count) (r .text)
 step-is r e = e ∙ rw e
 
 module _ {s : List ℕ} {left : ℕ} {lines : Bool} {k p i u K : ℕ} {b b′ x x′ y y′ : List ℕ} {r : Step}
@@ -157,16 +157,19 @@ module _ {s : List ℕ} {left : ℕ} {lines : Bool} {i u p j e₀ n₀ t₀ : �
 
 -- ---- nothing that may start stands at p
 
-pub none-as : (s : List ℕ) (a : Under) (p j : ℕ) {w : Went} → pickAt s a p ≡ none → w ≡ wentOf (unexpected s p) → FailAt (grammar (hcl s)) (a, j) p (w .kind) (w .at)
-none-as s a p j {w} e h =
-    let f = way.pick-none (hcl s) e in
-    let both : (w .kind ≡ refusal (unexpected s p) .0) × (w .at ≡ refusal (unexpected s p) .1) = go (isForeign (byteAt s p)) h in
-    part-led-no (hcl s) (subst (λ (o : Option ℕ). fit (hcl s) j o ≡ o) (sym e) refl)
-    (subst₂ (λ (o : ℕ) (v : ℕ). FailIn (grammar (hcl s)) (from (hcl s) (pickAt s a p) a p [] p) o v) (sym (both .0)) (sym (both .1)) f)
+pub unexpected-both : (s : List ℕ) (p : ℕ) {w : Went} → w ≡ wentOf (unexpected s p) → (w .kind ≡ refusal (unexpected s p) .0) × (w .at ≡ refusal (unexpected s p) .1)
+unexpected-both s p {w} h = go (isForeign (byteAt s p)) h
   where
     go : (x : Bool) → w ≡ wentOf (when x (no 3 p) (no 4 p)) → (w .kind ≡ refusal (when x (no 3 p) (no 4 p)) .0) × (w .at ≡ refusal (when x (no 3 p) (no 4 p)) .1)
     go true z = (ap (λ (v : Went). v .kind) z, ap (λ (v : Went). v .at) z)
     go false z = (ap (λ (v : Went). v .kind) z, ap (λ (v : Went). v .at) z)
+
+pub none-as : (s : List ℕ) (a : Under) (p j : ℕ) {w : Went} → pickAt s a p ≡ none → w ≡ wentOf (unexpected s p) → FailAt (grammar (hcl s)) (a, j) p (w .kind) (w .at)
+none-as s a p j {w} e h =
+    let f = way.pick-none (hcl s) e in
+    let (is-kind, is-place) = unexpected-both s p h in
+    part-led-no (hcl s) (subst (λ (o : Option ℕ). fit (hcl s) j o ≡ o) (sym e) refl)
+    (subst₂ (λ (o : ℕ) (v : ℕ). FailIn (grammar (hcl s)) (from (hcl s) (pickAt s a p) a p [] p) o v) (sym is-kind) (sym is-place) f)
 
 pub unexpected-is : (s : List ℕ) (p : ℕ) {w : Went} → w ≡ wentOf (unexpected s p) → (1 ≤ w .kind) × (w .at ≡ p)
 unexpected-is s p {w} h = go (isForeign (byteAt s p)) h

@@ -18,3 +18,4 @@ mod Bares
 mod Objects
 mod Entries
 mod ObjectTurns
+mod Wholly
