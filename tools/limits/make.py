@@ -1,4 +1,4 @@
-"""Makes crates/limits/stdin and crates/limits/stdout: the cases below, and what an independent reading answers to them: python3 tools/limits/make.py READING
+"""Makes crates/limits/stdin and crates/limits/stdout: the cases below, and what a reading in Python answers to them: python3 tools/limits/make.py READING
 
 READING is a folder with a module `hcl`, whose `answer` gives ((kind, place), records, text) of a source."""
 import pathlib

@@ -19,3 +19,4 @@ mod Objects
 mod Entries
 mod ObjectTurns
 mod Wholly
+mod Nodes

@@ -3,3 +3,6 @@ pub mod Said
 pub mod Text
 pub mod Items
 pub mod Read
+pub mod Node
+pub mod NodeTexts
+pub mod NodeTextLaws

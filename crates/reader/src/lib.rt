@@ -7,6 +7,7 @@ ghost use Rattle.grammar.specs.Answer.{answer};
 ghost use Rattle.reader.specs.Read.{Reads, answerFrom};
 
 mod items;
+pub mod node;
 mod put;
 mod text;
 mod tree;
