@@ -6,3 +6,4 @@ pub mod Read
 pub mod Node
 pub mod NodeTexts
 pub mod NodeTextLaws
+pub mod NodeReadLaws

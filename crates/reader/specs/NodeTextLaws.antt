@@ -19,15 +19,15 @@ right-empty : (w : List ℕ) → w ++ [] ≡ w
 right-empty [] = refl
 right-empty (y ∷ w) = ap (λ r. y ∷ r) (right-empty w)
 
-assoc : (x y z : List ℕ) → (x ++ y) ++ z ≡ x ++ (y ++ z)
+pub assoc : (x y z : List ℕ) → (x ++ y) ++ z ≡ x ++ (y ++ z)
 assoc [] y z = refl
 assoc (a ∷ x) y z = ap (λ r. a ∷ r) (assoc x y z)
 
-drop-before : (x y : List ℕ) → drop (length x) (x ++ y) ≡ y
+pub drop-before : (x y : List ℕ) → drop (length x) (x ++ y) ≡ y
 drop-before [] y = refl
 drop-before (a ∷ x) y = drop-before x y
 
-take-before : (x y : List ℕ) → take (length x) (x ++ y) ≡ x
+pub take-before : (x y : List ℕ) → take (length x) (x ++ y) ≡ x
 take-before [] y = refl
 take-before (a ∷ x) y = ap (λ r. a ∷ r) (take-before x y)
 
