@@ -37,6 +37,12 @@ MANY = [
 # Sources whose room is exactly enough, one short, and no multiple of seven; the last three have text.
 ROOM = [b"1", b"[]", b"1+2*3", b"{a=1,b=[c]}", b'"\\n"', b'"a\\tb${c}\\u00e9"', b"<<E\n$${x\nE"]
 
+# The examples of the rules, the first ten and the others.
+EXAMPLES = [
+    b"1+2*3", b"8-3-2", b'"$$${"', b'"\\uD800"', b"f(a...)", b"a..b", b"", b"{a=1,a=2}", b'{a=1,"a"=2}', b"<<E\nx\nE", b"-1",
+    b"<<E\nE", b"<<E\nEx\nE", b"[,]", b'"\\U0010FFFF"', b'"\\U00110000"',
+]
+
 
 def source(parts):
     return b"".join(part * times for times, part in parts)
@@ -55,6 +61,8 @@ def cases():
             yield case([(1, before), (n - len(before) - len(after), part), (1, after)])
     for parts in MANY:
         yield case(parts, 0, 0)
+    for s in EXAMPLES:
+        yield case([(1, s)])
 
 
 def rooms(need):
