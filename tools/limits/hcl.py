@@ -1,4 +1,4 @@
-"""A reading of HCL in Python, after the tables of `grammar`, without proof and without limits of its own. `tools/limits/make.py` takes its answers."""
+"""A reading of HCL in Python, after the tables of `grammar`, with no proof. `tools/limits/make.py` takes its answers, so they are no check of those tables."""
 # ---------- lexis
 def at(s,p): return s[p] if p < len(s) else 256
 def is_space(b): return b in (32,9)

@@ -47,6 +47,7 @@ isBroken why.Closing = false
 isBroken why.Foreign = false
 isBroken why.End = false
 
+-- 01: "A quoted string may hold interpolations that hold quoted strings."
 abbrev pub isTemplate : List ℕ → ℕ → Bool
 isTemplate s p = isBroken (textAt quoted s (p + 1) .why)
 
@@ -73,6 +74,7 @@ terms s lines p =
     ∷ []
 
 -- the parts of a traversal: past the `.` or `[` and any trivia, `*` or not
+-- 01: "After `.` any trivia may stand, then `*`, an index (0, or 1 to 9 and digits) or an identifier."
 abbrev pub portions : List ℕ → ℕ → List (Bool × ℕ)
 portions s p =
     (eqb (byteAt s p) 46 && beyond (gapTo true s (p + 1)) (λ q. eqb (byteAt s q) 42), 40)
@@ -204,6 +206,7 @@ styles portion = 0
 styles piecewise = 0
 styles filter = 0
 
+-- 01: "A key is an expression;"
 abbrev pub bare : ℕ → ℕ
 bare k = cond (eqb k 5) 14 k
 
@@ -317,6 +320,7 @@ keeping filter = false
 
 -- ---- the language of a source
 
+-- 01: "A node runs from its first byte to the end of its last, without the trivia round it; brackets, quotes, `${` and `}`, `<<` and the closing delimiter belong to it."
 abbrev pub hcl : List ℕ → Lang ℕ Under Move Class
 hcl s = record {
   go = λ b m σ p. place (walk s b σ m p);

@@ -69,6 +69,7 @@ tights =
 -- the tightest operator that may follow a node, as the new node's left operand: an operator of its own level and looser ("equal levels group
 -- from the left"); after an item, a condition or a conditional, whose last part is a whole expression, none; after a unary operator no
 -- traversal ("one term, its traversals included"); a traversal has taken "all following operators" of its own level
+-- 01: "Equal levels group from the left."
 abbrev pub holds : List ℕ
 holds =
     0 ∷ 9 ∷ 9 ∷ 9 ∷ 9 ∷ 9 ∷ 9 ∷ 9 ∷ 9 ∷ 9 ∷ 9 ∷ 9 ∷ 9 ∷ 0 ∷ 9 ∷ 9 ∷ 9 ∷ 9 ∷ 9 ∷ 9 ∷ 0 ∷ 0 ∷ 7 ∷ 7

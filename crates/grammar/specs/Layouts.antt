@@ -105,12 +105,14 @@ objectLay =
     (kid entry (rep (gap line ∷ stop ∷ gap any ∷ unless 125 ∷ []) entry (move (gap line ∷ ended ∷ mark (125 ∷ []) [] ∷ []) (fin 0))))))
 
 -- "same-line space beside a key's `=`"; flag 1 for `:`. Duplicate is decided after the key and its same-line space
+-- 01: "13 holds key and value and ends with the value."
 abbrev pub itemLay : Layout
 itemLay =
     kid key
     (fork (gap line ∷ fresh ∷ mark (61 ∷ []) ((61 ∷ 61 ∷ []) ∷ (61 ∷ 62 ∷ []) ∷ []) ∷ []) (move sameLine (kid value (fin 0)))
     (move (gap line ∷ fresh ∷ mark (58 ∷ []) [] ∷ []) (move sameLine (kid value (fin 1)))))
 
+-- 01: "10, 15, 20, 22 and 23 hold one expression;"
 abbrev pub parenthesesLay : Layout
 parenthesesLay = move (opening (40 ∷ [])) (move space (kid inside (move (past (41 ∷ [])) (fin 0))))
 
@@ -149,6 +151,7 @@ abbrev pub filtersLay : Layout
 filtersLay = move (word if′ ∷ []) (move space (kid test (fin 0)))
 
 -- after its condition: `?` opens a level that lasts to "the end of the third part"
+-- 01: "The conditional is looser than all, and its parts are whole expressions apart from its condition."
 abbrev pub conditionalLay : Layout
 conditionalLay =
     move (gap here ∷ opens (63 ∷ []) [] ∷ [])
@@ -159,6 +162,7 @@ abbrev pub unaryLay : ℕ → List (List ℕ) → Layout
 unaryLay c longer = move (opens (c ∷ []) longer ∷ []) (move sameLine (kid term (fin 0)))
 
 -- after its left operand: the operator, and an operand that binds tighter
+-- 01: "21 holds three parts, 24 to 36 left and right."
 abbrev pub operatorLay : ℕ → ℕ → Layout
 operatorLay k t = move (gap here ∷ operator k ∷ []) (move round (kid (right t) (fin 0)))
 
@@ -173,10 +177,12 @@ dotLay m = move (plain (46 ∷ [])) (move space (move m (fin 0)))
 abbrev pub splatLay : Layout
 splatLay = move (opening (91 ∷ [])) (move (past (42 ∷ [])) (move (past (93 ∷ [])) (fin 0)))
 
+-- 01: "each of those starts at its `.` or `[`, and only 42 has a child."
 abbrev pub indexLay : Layout
 indexLay = move (opening (91 ∷ [])) (move space (kid inside (move (past (93 ∷ [])) (fin 0))))
 
 -- by kind, 0 to 42
+-- 01: "Flags not named here or below are 0."
 unfoldable pub layouts : List Layout
 layouts =
     bad

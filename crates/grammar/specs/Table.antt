@@ -25,6 +25,7 @@ ownAs s t b true y = textAt quoted s (b + 1) .bytes ∷ []
 ownAs s t b false true = textAt (round s t) s b .bytes ∷ []
 ownAs s t b false false = []
 
+-- 01: "Kinds 6 and 9 have text."
 unfoldable pub own : List ℕ → ℕ → ℕ → ℕ → ℕ → List (List ℕ)
 own s t k φ b = ownAs s t b (eqb k 6 && eqb φ 1) (eqb k 9 && eqb φ 1)
 
@@ -39,12 +40,14 @@ flatten (x ∷ xs) = x ++ flatten xs
 
 -- where the text of a node begins and how long it is, u bytes of text being used before it: with flag 1 in the text buffer; with flag 0 the
 -- source itself, for 6 between the quotes; 0, 0 for the kinds without text
+-- 01: "Kinds without text have 0, 0."
 abbrev pub spanAs : ℕ → ℕ → ℕ → ℕ → Bool → Bool → Bool → ℕ × ℕ
 spanAs b e u n true y z = (u, n)
 spanAs b e u n false true z = (b + 1, e - b - 2)
 spanAs b e u n false false true = (b, e - b)
 spanAs b e u n false false false = (0, 0)
 
+-- 01: "With no escape or escaped marker in it, flag 0 and the text is the source itself (for 6, between the quotes)."
 abbrev pub span : ℕ → ℕ → ℕ → ℕ → ℕ → ℕ → ℕ × ℕ
 span k φ b e u n = spanAs b e u n ((eqb k 6 && eqb φ 1) || (eqb k 9 && eqb φ 1)) (eqb k 6) (eqb k 9)
 
@@ -81,5 +84,6 @@ numbers (r ∷ rs) = r .kind ∷ r .flag ∷ r .start ∷ r .end ∷ r .count �
 abbrev pub tableOf : List ℕ → Tree ℕ → List Record
 tableOf s t = recordsOf s 0 0 t
 
+-- 01: "Otherwise flag 1 and it stands unescaped in the text buffer, pieces back to back in table order."
 abbrev pub wordsOf : List ℕ → Tree ℕ → List ℕ
 wordsOf s t = flatten (textsOf s 0 t)

@@ -18,6 +18,7 @@ abbrev pub isWithin : ℕ → ℕ → ℕ → Bool
 isWithin low high b = leb low b && leb b high
 
 -- space and tab
+-- 01: "Space: space and tab."
 abbrev pub isSpace : ℕ → Bool
 isSpace b = eqb b 32 || eqb b 9
 

@@ -22,6 +22,7 @@ endsBy e b = cond (isRest b) Text (cond (isForeign b) (Foreign e) (Closes e))
 
 -- what the line at the front of a list is, for the delimiter d: text, the closing line, or foreign. A closing line is spaces and tabs, then the delimiter, then no
 -- identifier character; the number is where the delimiter ends
+-- 01: "Only the first line that is optional space, then the delimiter, then no identifier character, closes it, the line after the opener included (the Rust may take that one as text)."
 unfoldable pub closing : List ℕ → List ℕ → Line
 closing d l =
     cond (begins d (drop (run isSpace l) l))
@@ -29,6 +30,7 @@ closing d l =
     Text
 
 -- the same in the source, at the place p
+-- 01: "A scalar of 128 or more right after a delimiter there is Foreign."
 abbrev pub lineAs : ℕ → Line → Line
 lineAs p Text = Text
 lineAs p (Closes e) = Closes (p + e)
@@ -38,11 +40,13 @@ abbrev pub lineAt : List ℕ → List ℕ → ℕ → Line
 lineAt d s p = lineAs p (closing d (drop p s))
 
 -- a line starts at p: the byte before it is LF
+-- 01: "A line starts after the opener or a line ending in literal text."
 abbrev pub freshAt : List ℕ → ℕ → Bool
 freshAt s zero = false
 freshAt s (suc p) = eqb (byteAt s p) 10
 
 -- the width of the line ending at p; 0 where none stands
+-- 01: "The line ending before it is text."
 abbrev pub lineEnd : List ℕ → ℕ → ℕ
 lineEnd s p = ending (drop p s)
 

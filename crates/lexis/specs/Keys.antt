@@ -50,6 +50,7 @@ alike [] (y ∷ ys) = false
 alike (x ∷ xs) [] = false
 alike (x ∷ xs) (y ∷ ys) = eqb x y && alike xs ys
 
+-- 01: "Duplicate: two bare keys of equal bytes, two plain strings of equal text, or two of the same of `null`, `true`, `false`. Other keys aren't compared."
 abbrev pub sameAs : Key → Key → Bool
 sameAs (word a) (word b) = alike a b
 sameAs (plain a) (plain b) = alike a b

@@ -30,6 +30,7 @@ exponentTo s p =
     p
 
 -- the end of the longest number at p; p where none starts
+-- 01: "Number: digits, then optionally `.` digits, then optionally `e` or `E`, an optional `+` or `-`, and digits; longest first."
 abbrev pub numberTo : List ℕ → ℕ → ℕ
 numberTo s p = cond (isDigit (byteAt s p)) (exponentTo s (fractionTo s (digitsTo s p))) p
 

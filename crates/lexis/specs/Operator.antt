@@ -86,6 +86,7 @@ abbrev pub colonsTo : List ℕ → ℕ → ℕ
 colonsTo s p = markTo (58 ∷ 58 ∷ []) [] s p
 
 -- `.`, but not `..`
+-- 01: "`..` never starts a traversal."
 abbrev pub dotTo : List ℕ → ℕ → ℕ
 dotTo s p = markTo (46 ∷ []) ((46 ∷ 46 ∷ []) ∷ []) s p
 

@@ -55,6 +55,7 @@ abbrev pub short : ℕ → Unit
 short b = is 2 (b ∷ []) true
 
 -- the escape whose letter is b, with s behind it: `\n \r \t \\ \"`, `\uXXXX`, `\UXXXXXXXX`
+-- 01: "`\n \r \t \\ \"`, `\u` with 4 hex digits, `\U` with 8, no surrogate, none over 10FFFF."
 unfoldable pub escape : ℕ → List ℕ → Unit
 escape b s =
     cond (eqb b 110) (short 10)
@@ -67,10 +68,12 @@ escape b s =
     (not Escape)))))))
 
 -- `$` or `%`, b, with c and d behind it: `$${` is `${`, and `${` ends the text
+-- 01: "`$${` gives `${`, `%%{` gives `%{`."
 abbrev pub marker : Why → ℕ → ℕ → ℕ → Unit
 marker w b c d = cond (eqb c b && eqb d 123) (is 3 (b ∷ 123 ∷ []) true) (cond (eqb c 123) (not w) (plain b))
 
 -- the unit at the front of a list, in quoted text (q) or in a heredoc
+-- 01: "Raw line endings are text."
 unfoldable pub unit : Bool → List ℕ → Unit
 unit q [] = not End
 unit q (b ∷ s) =
@@ -87,6 +90,7 @@ lineOr (line.Closes e) u = not Closing
 lineOr (line.Foreign e) u = not Foreign
 
 -- the unit at the front of a list; f: a line starts there
+-- 01: "Heredoc text has no backslash escapes."
 abbrev pub unitIn : Mode → Bool → List ℕ → Unit
 unitIn m f [] = not End
 unitIn quoted f (b ∷ s) = unit true (b ∷ s)

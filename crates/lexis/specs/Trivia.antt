@@ -10,6 +10,7 @@ use Rattle.lexis.specs.declared.trivia.Gap.{Gap}
 use Rattle.lexis.specs.declared.trivia.Stop.{Stop}
 
 -- the width of the line ending at the front of a list: LF is 1, CRLF is 2; 0 where none stands, a lone CR among that
+-- 01: "Line ending: LF or CRLF; a lone CR outside literal text and comments is Unexpected."
 abbrev pub ending : List ℕ → ℕ
 ending xs = cond (begins (10 ∷ []) xs) 1 (cond (begins (13 ∷ 10 ∷ []) xs) 2 0)
 
@@ -38,6 +39,7 @@ blockAs n (x ∷ xs) = wide (n + 4)
 abbrev pub closes : List ℕ → Bool
 closes xs = begins (42 ∷ 47 ∷ []) xs
 
+-- 01: "Comments: `#` or `//` to the line ending, `/* */` unnested."
 abbrev pub block : List ℕ → Item
 block xs = blockAs (upTo closes xs) (drop (upTo closes xs) xs)
 
@@ -48,6 +50,7 @@ lineItem xs =
     (cond (startsComment xs) (wide (comment xs + ending (drop (comment xs) xs))) none)
 
 -- the item of trivia at the front of a list; `lines` says whether line endings count
+-- 01: "Single-line mode takes space and block comments, with any line endings inside those, and this is what same-line space means below; multi-line mode takes all trivia."
 unfoldable pub item : Bool → List ℕ → Item
 item lines xs =
     cond (isSpace (byteAt xs 0)) (wide 1)

@@ -7,10 +7,12 @@ use lib.Dec.{eqb}
 use Rattle.lexis.specs.Bytes.{byteAt, runTo, isSpace, isStart, isRest, stands}
 
 -- the end of the identifier at p; p where none starts
+-- 01: "Identifier: a letter or `_`, then letters, digits, `_`, `-`."
 abbrev pub identTo : List ℕ → ℕ → ℕ
 identTo s p = cond (isStart (byteAt s p)) (runTo isRest s (p + 1)) p
 
 -- the identifier at p is the given word: its bytes, and no identifier character behind them
+-- 01: "No other keyword may be followed by an identifier character."
 abbrev pub isWord : List ℕ → List ℕ → ℕ → Bool
 isWord w s p = stands w s p && not (isRest (byteAt s (p + length w)))
 

@@ -36,10 +36,12 @@ abbrev pub numberAt : List ℕ → ℕ → ℕ
 numberAt b i = getD b i 0
 
 -- the same of the i-th record of a table b, where it has one
+-- 01: "The text of a node is handed back as a part of the source or of the text buffer, never a copy;"
 abbrev pub textOfNode : List ℕ → List ℕ → List ℕ → ℕ → List ℕ
 textOfNode s b x i =
     cond (ltb i (length b / 7)) (textIn s x (numberAt b (i * 7)) (numberAt b (i * 7 + 1)) (numberAt b (i * 7 + 5)) (numberAt b (i * 7 + 6))) []
 
+-- 01: "a bad index, numbers that don't fit, a flag over 1, or a kind without text gives an empty part of the source, and a yes or no tells this from empty text."
 abbrev pub nodeHasText : List ℕ → List ℕ → List ℕ → ℕ → Bool
 nodeHasText s b x i =
     cond (ltb i (length b / 7)) (hasText s x (numberAt b (i * 7)) (numberAt b (i * 7 + 1)) (numberAt b (i * 7 + 5)) (numberAt b (i * 7 + 6))) false
