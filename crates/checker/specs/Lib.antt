@@ -1,3 +1,5 @@
 pub mod Program
 pub mod Rows
 pub mod Leaf
+pub mod Family
+pub mod Lay

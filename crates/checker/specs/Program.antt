@@ -4,13 +4,13 @@
 use Prim.Native.Nat.{ℕ, _+_, _-_}
 use mathlib.Core.Path.{_≡_, refl}
 use mathlib.Core.List.{List, [], _∷_}
-use mathlib.Core.Bool.{Bool, true, cond, _&&_}
+use mathlib.Core.Bool.{Bool, true, false, cond, _&&_}
 use lib.ListN.{getD}
 use lib.Dec.{eqb, leb, ltb, T}
 use Rattle.engine.specs.Base.{allOf}
 use Rattle.engine.specs.Layout.{bad, fin, move, kid, fork, rep}
-use Rattle.grammar.specs.Moves.{Move, gap, mark, opens, unless, stop, ended, fresh, any, line}
-use Rattle.grammar.specs.Layouts.{Class, key, value, term, entry, Layout, layoutOf, layouts}
+use Rattle.grammar.specs.Moves.{Move, gap, mark, opens, unless, stop, ended, fresh, any, line, same}
+use Rattle.grammar.specs.Layouts.{Class, inside, single, key, value, test, branch, term, right, entry, called, portion, piecewise, filter, Layout, layoutOf, layouts}
 use Rattle.grammar.specs.Hcl.{fits, under}
 use Rattle.grammar.specs.Published.{wantOf}
 use Rattle.grammar.specs.Code.{moveAt, classOf, code, operation, argument, class, otherwise, begin, coded, atoms, moveOf, program, begins}
@@ -212,3 +212,31 @@ fitting k (rep m c l) = fits (under 0 true (wantOf k)) c && fitting k l
 pub all-fitting : T (allOf (λ k. fitting k (layoutOf k)) laidOut)
 unfolding layouts
 all-fitting = tt
+
+-- an object's children are items, and no others are
+abbrev pub isEntry : Class → Bool
+isEntry inside = false
+isEntry single = false
+isEntry key = false
+isEntry value = false
+isEntry test = false
+isEntry branch = false
+isEntry term = false
+isEntry (right n) = false
+isEntry entry = true
+isEntry called = false
+isEntry portion = false
+isEntry piecewise = false
+isEntry filter = false
+
+abbrev pub itemed : ℕ → Layout → Bool
+itemed k bad = true
+itemed k (fin φ) = true
+itemed k (move m l) = itemed k l
+itemed k (kid c l) = same (eqb k 12) (isEntry c) && itemed k l
+itemed k (fork m l l′) = itemed k l && itemed k l′
+itemed k (rep m c l) = same (eqb k 12) (isEntry c) && itemed k l
+
+pub all-itemed : T (allOf (λ k. itemed k (layoutOf k)) laidOut)
+unfolding layouts
+all-itemed = tt

@@ -1,2 +1,9 @@
 // The checker: a table and a text from anyone, tested against a source.
+mod family;
+mod kinds;
+mod lay;
+mod moves;
+mod pass;
+mod program;
+mod rows;
 mod text;

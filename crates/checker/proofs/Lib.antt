@@ -1,0 +1,4 @@
+mod Families
+mod Overs
+mod Lays
+mod Passes
