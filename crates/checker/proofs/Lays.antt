@@ -77,22 +77,22 @@ below-up : (xs : List ℕ) (j k : ℕ) → j ≤ k → Below xs j → Below xs k
 below-up [] j k l b = tt
 below-up (x ∷ xs) j k l (a, b) = (omega arith, below-up xs j k l b)
 
-below-snoc : (xs : List ℕ) (j k : ℕ) → j < k → Below xs j → Below (xs ++ j ∷ []) k
+pub below-snoc : (xs : List ℕ) (j k : ℕ) → j < k → Below xs j → Below (xs ++ j ∷ []) k
 below-snoc [] j k l b = (l, tt)
 below-snoc (x ∷ xs) j k l (a, b) = (omega arith, below-snoc xs j k l b)
 
-depths-set : (D : List ℕ) (j v : ℕ) (xs : List ℕ) → Below xs j → depthsAt (set D j v) xs ≡ depthsAt D xs
+pub depths-set : (D : List ℕ) (j v : ℕ) (xs : List ℕ) → Below xs j → depthsAt (set D j v) xs ≡ depthsAt D xs
 depths-set D j v [] b = refl
 depths-set D j v (x ∷ xs) (a, b) =
     let same : getD (set D j v) x 0 ≡ getD D x 0 = getD-set-other D j x v 0 (λ (z : x ≡ j). omega arith) in
     let rest = depths-set D j v xs b in
     rw (same, rest)
 
-depths-snoc : (D : List ℕ) (xs : List ℕ) (j : ℕ) → depthsAt D (xs ++ j ∷ []) ≡ depthsAt D xs ++ coded (getD D j 0) ∷ []
+pub depths-snoc : (D : List ℕ) (xs : List ℕ) (j : ℕ) → depthsAt D (xs ++ j ∷ []) ≡ depthsAt D xs ++ coded (getD D j 0) ∷ []
 depths-snoc D [] j = refl
 depths-snoc D (x ∷ xs) j = ap (λ (l : List Depth). coded (getD D x 0) ∷ l) (depths-snoc D xs j)
 
-told-snoc : (xs : List (Under × ℕ)) (a : Under × ℕ) → map depthOf (xs ++ a ∷ []) ≡ map depthOf xs ++ depthOf a ∷ []
+pub told-snoc : (xs : List (Under × ℕ)) (a : Under × ℕ) → map depthOf (xs ++ a ∷ []) ≡ map depthOf xs ++ depthOf a ∷ []
 told-snoc [] a = refl
 told-snoc (x ∷ xs) a = ap (λ (l : List Depth). depthOf x ∷ l) (told-snoc xs a)
 
@@ -103,23 +103,23 @@ chain-same m i [] (y ∷ ks) j c (e, up, far, d) = absurd (omega arith)
 chain-same m i (x ∷ js) [] j (e, up, far, c) d = absurd (omega arith)
 chain-same m i (x ∷ js) (y ∷ ks) j (e, up, far, c) (e′, up′, far′, d) = let z = chain-same m i js ks (getD m j 0) c d in let y : x ≡ y = e ∙ sym e′ in cc
 
-chain-le : (m : List ℕ) (i : ℕ) (js : List ℕ) (j : ℕ) → Chain m i js j → j ≤ i
+pub chain-le : (m : List ℕ) (i : ℕ) (js : List ℕ) (j : ℕ) → Chain m i js j → j ≤ i
 chain-le m i [] j c = omega arith
 chain-le m i (x ∷ js) j (e, up, far, c) = omega arith
 
 -- a chain that goes on has a row
-record Next (m : List ℕ) (i : ℕ) (js : List ℕ) (j : ℕ) : Type 0 where
-  rest : List ℕ
-  are : js ≡ j ∷ rest
-  up : j < getD m j 0
-  far : getD m j 0 ≤ i
-  chain : Chain m i rest (getD m j 0)
+pub record Next (m : List ℕ) (i : ℕ) (js : List ℕ) (j : ℕ) : Type 0 where
+  pub rest : List ℕ
+  pub are : js ≡ j ∷ rest
+  pub up : j < getD m j 0
+  pub far : getD m j 0 ≤ i
+  pub chain : Chain m i rest (getD m j 0)
 
-next-of : (m : List ℕ) (i : ℕ) (js : List ℕ) (j : ℕ) → Chain m i js j → j < i → Next m i js j
+pub next-of : (m : List ℕ) (i : ℕ) (js : List ℕ) (j : ℕ) → Chain m i js j → j < i → Next m i js j
 next-of m i [] j c l = absurd (omega arith)
 next-of m i (x ∷ js) j (e, up, far, c) l = record { rest = js; are = ap (λ (y : ℕ). y ∷ js) e; up = up; far = far; chain = c }
 
-none-left : (m : List ℕ) (i : ℕ) (js : List ℕ) (j : ℕ) → Chain m i js j → j ≡ i → js ≡ []
+pub none-left : (m : List ℕ) (i : ℕ) (js : List ℕ) (j : ℕ) → Chain m i js j → j ≡ i → js ≡ []
 none-left m i [] j c e = refl
 none-left m i (x ∷ js) j (a, up, far, c) e = absurd (omega arith)
 

@@ -2,3 +2,5 @@ mod Families
 mod Overs
 mod Lays
 mod Passes
+mod Strands
+mod TextTurns

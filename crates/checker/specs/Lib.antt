@@ -3,3 +3,4 @@ pub mod Rows
 pub mod Leaf
 pub mod Family
 pub mod Lay
+pub mod Texts

@@ -7,3 +7,4 @@ mod pass;
 mod program;
 mod rows;
 mod text;
+mod texts;

@@ -36,3 +36,5 @@ pub mod RowLaws
 pub mod Demands
 pub mod DemandLaws
 pub mod RuleShown
+pub mod UnitLaws
+pub mod TextLaws
