@@ -4,3 +4,13 @@ mod Lays
 mod Passes
 mod Strands
 mod TextTurns
+pub mod Tables
+pub mod Programs
+pub mod Callings
+pub mod Columns
+pub mod Goings
+pub mod Units
+pub mod Runs
+pub mod Spellings
+pub mod Tellings
+pub mod Strings

@@ -17,6 +17,11 @@ abbrev pub Chain : List ℕ → ℕ → List ℕ → ℕ → Type 0
 Chain m i [] j = j ≡ i
 Chain m i (x ∷ xs) j = (x ≡ j) × (j < getD m j 0) × (getD m j 0 ≤ i) × Chain m i xs (getD m j 0)
 
+-- some rows do
+pub record Linked (m : List ℕ) (i j : ℕ) : Type 0 where
+  pub js : List ℕ
+  pub chain : Chain m i js j
+
 -- `r` is the row of the first child of the row i, or i where it has none; then its children are linked. More than i: no children by their counts
 pub record Family (t : List ℕ) (i : ℕ) (m m′ : List ℕ) (r : ℕ) : Type 0 where
   pub long : length m′ ≡ length m

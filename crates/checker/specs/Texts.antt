@@ -74,7 +74,7 @@ abbrev pub Spelts : List ℕ → List ℕ → List ℕ → Mode → List ℕ →
 Spelts s text t m [] = Unit {0}
 Spelts s text t m (j ∷ js) = ((rowAt t j) .kind ≡ 9 → Spelt m s text ((rowAt t j) .start) (rowAt t j)) × Spelts s text t m js
 
--- what `texts` asks for: `own` is the depth of the row itself
+-- what `texts` asks for
 pub record Texting (s t : List ℕ) (i : ℕ) (m D : List ℕ) (j : ℕ) (plain : Bool) (d e : ℕ) : Type 0 where
   pub within : 7 * i + 7 ≤ length t
   pub marked : i < length m
@@ -82,7 +82,6 @@ pub record Texting (s t : List ℕ) (i : ℕ) (m D : List ℕ) (j : ℕ) (plain 
   pub js : List ℕ
   pub chain : Chain m i js j
   pub mode : modeOf s plain d e ≡ round s ((rowAt t i) .start)
-  pub kind : ((rowAt t i) .kind ≡ 7 → ⊥) → (rowAt t i) .kind ≡ 8
 
 -- the text from p on, over the children js
 abbrev pub Text : List ℕ → List ℕ → ℕ → ℕ → ℕ → List ℕ → List (Under × ℕ) → Type 0

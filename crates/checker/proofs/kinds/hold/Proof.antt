@@ -1,15 +1,12 @@
+use lib.ListN.{List·getD-eq-default}
+use mathlib.Core.Path.{sym}
+use Rattle.grammar.specs.Kinds.{holds}
+use borrow.Author.Needs.{needs}
 use Rattle.checker.proofs.kinds.hold.Statement.{statement}
 use Rattle.checker.proofs.kinds.hold.Tie as tie
-use Rattle.checker.proofs.kinds.hold.Reads as reads
-use Rattle.checker.proofs.kinds.hold.Lts as lts
 
--- src/kinds.rt:6:1
-returns : tie.Need-returns
-returns c = ?
-
--- src/kinds.rt:6:1
 returns-2 : tie.Need-returns-2
-returns-2 c = ?
+returns-2 c = sym (List·getD-eq-default holds 0 {n = (c .before .args .kind)} (c .if1 .left))
 
 pub hold-spec : {M : Type 1} → statement M
-hold-spec = tie.close (tie.spec returns returns-2)
+hold-spec = tie.close (tie.spec (λ c. search needs) (λ c. search needs) returns-2)

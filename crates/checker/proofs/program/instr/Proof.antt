@@ -1,17 +1,25 @@
+use mathlib.Core.Path.{refl}
+use native.Mathlib.Omega.{arith}
+use Rattle.checker.proofs.Programs.{instr-low, instr-own}
 use borrow.Author.Needs.{needs}
 use Rattle.checker.proofs.program.instr.Statement.{statement}
 use Rattle.checker.proofs.program.instr.Tie as tie
-use Rattle.checker.proofs.program.instr.Reads as reads
-use Rattle.checker.proofs.program.instr.Lts as lts
-use Rattle.grammar.proofs.program.instr.Reads as instr-reads
 
--- src/program.rt:12:5
-instr-requires : tie.Need-instr-requires
-instr-requires c κs = search needs
-
--- src/program.rt:9:1
 returns : tie.Need-returns
-returns c = ?
+returns c = instr-low (c .before .if1 .taken) (c .instr .ensures)
+
+returns-2 : tie.Need-returns-2
+returns-2 c = instr-own (c .before .before .args .pc) (c .word .result) (c .before .if1 .left) (c .word .ensures) refl refl refl refl (omega arith)
 
 pub instr-spec : {M : Type 1} → statement M
-instr-spec = tie.close (tie.spec instr-requires returns)
+instr-spec =
+    tie.close
+    (tie.spec
+    (λ c κs. search needs)
+    returns
+    (λ c κs. search needs)
+    (λ c. search needs)
+    (λ c. search needs)
+    (λ c. search needs)
+    (λ c. search needs)
+    returns-2)
