@@ -14,3 +14,7 @@ pub mod Runs
 pub mod Spellings
 pub mod Tellings
 pub mod Strings
+mod Heads
+mod TextHeads
+mod Growns
+mod Nodes

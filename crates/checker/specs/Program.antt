@@ -240,3 +240,39 @@ itemed k (rep m c l) = same (eqb k 12) (isEntry c) && itemed k l
 pub all-itemed : T (allOf (λ k. itemed k (layoutOf k)) laidOut)
 unfolding layouts
 all-itemed = tt
+
+-- no child is a piece or an interpolation; and the layouts without children
+abbrev pub isPiece : Class → Bool
+isPiece inside = false
+isPiece single = false
+isPiece key = false
+isPiece value = false
+isPiece test = false
+isPiece branch = false
+isPiece term = false
+isPiece (right n) = false
+isPiece entry = false
+isPiece called = false
+isPiece portion = false
+isPiece piecewise = true
+isPiece filter = false
+
+abbrev pub pieceless : Layout → Bool
+pieceless bad = true
+pieceless (fin φ) = true
+pieceless (move m l) = pieceless l
+pieceless (kid c l) = same false (isPiece c) && pieceless l
+pieceless (fork m l l′) = pieceless l && pieceless l′
+pieceless (rep m c l) = same false (isPiece c) && pieceless l
+
+pub all-pieceless : T (allOf (λ k. pieceless (layoutOf k)) laidOut)
+unfolding layouts
+all-pieceless = tt
+
+abbrev pub kidless : Layout → Bool
+kidless bad = true
+kidless (fin φ) = true
+kidless (move m l) = kidless l
+kidless (kid c l) = false
+kidless (fork m l l′) = kidless l && kidless l′
+kidless (rep m c l) = false

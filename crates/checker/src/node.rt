@@ -96,7 +96,11 @@ fn heredoc(
     requires { ⌜ Noding (now s) (now table) i (now marks) (now depths) (now depths) own × Linked (now marks) i first × ((rowAt (now table) i) .kind ≡ 8) ⌝ }
     ensures { λ r. ⌜ RuleBy (now (s .entry)) (now (text .entry)) (now (table .entry)) i (now (marks .entry)) (now (depths .entry)) (now (depths .exit)) first own r ⌝ }
 {
-    let o = opener_at(s, wide(table[7 * i + 2]));
+    let start = wide(table[7 * i + 2]);
+    if !first_at(s, Kind::HEREDOC, start, multi_line(own)) {
+        return false;
+    }
+    let o = opener_at(s, start);
     if !o.good {
         return false;
     }

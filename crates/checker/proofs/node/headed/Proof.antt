@@ -1,3 +1,14 @@
+use native.Mathlib.Omega.{arith}
+use Prim.Native.Nat.{_-_, _+_, _*_, _<_, _≤_}
+use mathlib.Core.Path.{_≡_, refl, sym, ap, subst, _∙_}
+use borrow.Author.Tests.{not-true, not-false}
+use Rattle.checker.proofs.Nodes.{left-no, left-by, is-t, not-t, first-as, left-as, laid-as, text-as, opened-as, node-piece, node-lost, node-by, family-linked}
+use Rattle.checker.proofs.Heads.{head-no, head-known, head-by}
+use Rattle.checker.proofs.Growns.{grown-none, grown-left-no, left-known, grown-by}
+use Rattle.checker.proofs.TextHeads.{template-first-no, template-flag-no, template-mode, template-by, heredoc-first-no, heredoc-no, heredoc-flag-no, heredoc-mode, heredoc-by, string-kids, string-by}
+use Rattle.checker.proofs.Lays.{chain-le, next-of}
+use mathlib.Core.List.{[]}
+use Rattle.checker.specs.Leaf.{FirstAt}
 use borrow.Author.Needs.{needs}
 use Rattle.checker.proofs.node.headed.Statement.{statement}
 use Rattle.checker.proofs.node.headed.Tie as tie
@@ -51,7 +62,7 @@ first-at-requires c κs = search needs
 
 -- src/node.rt:189:9
 returns : tie.Need-returns
-returns c = ?
+returns c = head-no _ _ _ _ _ _ _ _ ((c .before .before .before .before .before .before .before .before .before .before .before .before .pre .2)) (not-true _ ((c .if1 .taken))) (first-as ((c .before .before .before .wide .ensures .0)) ((c .before .before .multi-line .ensures)) ((c .before .first-at .ensures)))
 
 -- src/node.rt:200:9
 levels-requires : tie.Need-levels-requires
@@ -59,7 +70,7 @@ levels-requires c κs = search needs
 
 -- src/node.rt:191:5
 lay-requires : tie.Need-lay-requires
-lay-requires c κs = ?
+lay-requires c κs = record { within = (c .before .before .before .before .before .before .before .before .before .before .before .before .before .before .before .pre .0 .within); marked = (c .before .before .before .before .before .before .before .before .before .before .before .before .before .before .before .pre .0 .marked); deep = (c .before .before .before .before .before .before .before .before .before .before .before .before .before .before .before .pre .0 .deep); keyed = (c .before .before .before .before .before .before .before .before .before .before .before .before .before .before .before .pre .0 .keyed); few = omega (arith, (c .levels .ensures), (c .before .before .before .before .before .before .before .before .before .before .before .before .before .before .before .pre .0 .few)); js = (c .before .before .before .before .before .before .before .before .before .before .before .before .before .before .before .pre .1 .js); chain = (c .before .before .before .before .before .before .before .before .before .before .before .before .before .before .before .pre .1 .chain); known = head-known ((c .before .before .before .before .before .before .before .before .before .before .before .before .before .before .before .args .s .now)) ((c .before .before .before .before .before .before .before .before .before .before .before .before .before .before .before .args .table .now)) ((c .before .before .before .before .before .before .before .before .before .before .before .before .before .before .before .args .i)) ((c .before .before .before .before .before .before .before .before .before .before .before .before .before .before .before .args .own)) [] [] [] 0 ((c .before .before .before .before .before .before .before .before .before .before .before .before .before .before .before .pre .2)) ((c .before .before .before .before .before .before .before .before .before .before .before .before .before .before .before .pre .3)) (not-false _ ((c .before .before .before .if1 .left))) (first-as ((c .before .before .before .before .before .before .wide .ensures .0)) ((c .before .before .before .before .before .multi-line .ensures)) ((c .before .before .before .before .first-at .ensures))) }
 
 -- src/node.rt:171:1
 same-length : tie.Need-same-length
@@ -71,7 +82,7 @@ same-length-2 c = search needs
 
 -- src/node.rt:171:1
 returns-2 : tie.Need-returns-2
-returns-2 c = ?
+returns-2 c = head-by _ _ _ _ _ _ _ _ ((c .before .before .before .before .before .before .before .before .before .before .before .before .before .before .before .before .before .before .before .before .pre .2)) ((c .before .before .before .before .before .before .before .before .before .before .before .before .before .before .before .before .before .before .before .before .pre .3)) (not-false _ ((c .before .before .before .before .before .before .before .before .if1 .left))) (first-as ((c .before .before .before .before .before .before .before .before .before .before .before .wide .ensures .0)) ((c .before .before .before .before .before .before .before .before .before .before .multi-line .ensures)) ((c .before .before .before .before .before .before .before .before .before .first-at .ensures))) (laid-as ((c .before .before .before .before .before .before .before .before .before .before .before .wide .ensures .0)) ((c .before .before .before .before .before .levels .ensures)) ((c .before .before .before .before .before .before .before .before .before .before .multi-line .ensures)) ((c .before .before .before .before .lay .ensures)))
 
 pub headed-spec : {M : Type 1} → statement M
 headed-spec =

@@ -1,3 +1,12 @@
+use native.Mathlib.Omega.{arith}
+use Prim.Native.Nat.{_-_, _+_, _*_, _<_, _≤_}
+use mathlib.Core.Path.{_≡_, refl, sym, ap, subst, _∙_}
+use borrow.Author.Tests.{not-true, not-false}
+use Rattle.checker.proofs.Nodes.{left-no, left-by, is-t, not-t, first-as, left-as, laid-as, text-as, opened-as, node-piece, node-lost, node-by, family-linked}
+use Rattle.checker.proofs.Heads.{head-no, head-known, head-by}
+use Rattle.checker.proofs.Growns.{grown-none, grown-left-no, left-known, grown-by}
+use Rattle.checker.proofs.TextHeads.{template-first-no, template-flag-no, template-mode, template-by, heredoc-first-no, heredoc-no, heredoc-flag-no, heredoc-mode, heredoc-by, string-kids, string-by}
+use Rattle.checker.proofs.Lays.{chain-le, next-of}
 use borrow.Author.Needs.{needs}
 use Rattle.checker.proofs.node.left_at.Statement.{statement}
 use Rattle.checker.proofs.node.left_at.Tie as tie
@@ -43,7 +52,7 @@ shared-slice-read-if1 c = search needs
 
 -- src/node.rt:118:9
 returns : tie.Need-returns
-returns c = ?
+returns c = left-no (λ a b d e. (c .if1 .taken) a)
 
 -- src/node.rt:120:14
 mul-if2 : tie.Need-mul-if2
@@ -63,7 +72,7 @@ shared-slice-read-if2 c = search needs
 
 -- src/node.rt:121:9
 returns-2 : tie.Need-returns-2
-returns-2 c = ?
+returns-2 c = left-no (λ a b d e. omega (arith, b, (c .if2 .taken)))
 
 -- src/node.rt:123:22
 mul-kind : tie.Need-mul-kind
@@ -99,7 +108,7 @@ tight-requires c κs = search needs
 
 -- src/node.rt:125:9
 returns-3 : tie.Need-returns-3
-returns-3 c = ?
+returns-3 c = left-no (λ a b d e. omega (arith, d, (c .if3 .taken), (c .before .before .hold .ensures), (c .before .tight .ensures)))
 
 -- src/node.rt:127:32
 mul-fits : tie.Need-mul-fits
@@ -119,7 +128,7 @@ fits-requires c κs = search needs
 
 -- src/node.rt:128:9
 returns-4 : tie.Need-returns-4
-returns-4 c = ?
+returns-4 c = left-no (λ a b d e. not-t _ (sym ((c .before .fits2 .ensures)) ∙ not-true _ ((c .if4 .taken))) e)
 
 -- src/node.rt:130:26
 mul-wide : tie.Need-mul-wide
@@ -147,7 +156,7 @@ follow-requires c κs = search needs
 
 -- src/node.rt:112:1
 returns-5 : tie.Need-returns-5
-returns-5 c = ?
+returns-5 c = left-by ((c .before .before .before .before .fits2 .ensures)) (not-false _ ((c .before .before .before .if4 .left))) ((c .before .before .before .before .before .before .before .before .before .before .before .before .before .if1 .left)) (omega (arith, (c .before .before .before .before .before .before .if3 .left), (c .before .before .before .before .before .before .before .before .hold .ensures), (c .before .before .before .before .before .before .before .tight .ensures))) ((c .before .wide .ensures .0)) ((c .follow .ensures))
 
 pub left-at-spec : {M : Type 1} → statement M
 left-at-spec =

@@ -1,3 +1,13 @@
+use native.Mathlib.Omega.{arith}
+use mathlib.Core.List.{[]}
+use Prim.Native.Nat.{_-_, _+_, _*_, _<_, _≤_}
+use mathlib.Core.Path.{_≡_, refl, sym, ap, subst, _∙_}
+use borrow.Author.Tests.{not-true, not-false}
+use Rattle.checker.proofs.Nodes.{left-no, left-by, is-t, not-t, first-as, left-as, laid-as, text-as, opened-as, node-piece, node-lost, node-by, family-linked}
+use Rattle.checker.proofs.Heads.{head-no, head-known, head-by}
+use Rattle.checker.proofs.Growns.{grown-none, grown-left-no, left-known, grown-by}
+use Rattle.checker.proofs.TextHeads.{template-first-no, template-flag-no, template-mode, template-by, heredoc-first-no, heredoc-no, heredoc-flag-no, heredoc-mode, heredoc-by, string-kids, string-by}
+use Rattle.checker.proofs.Lays.{chain-le, next-of}
 use borrow.Author.Needs.{needs}
 use Rattle.checker.proofs.node.node.Statement.{statement}
 use Rattle.checker.proofs.node.node.Tie as tie
@@ -36,7 +46,7 @@ shared-slice-read-result c = search needs
 
 -- src/node.rt:253:9
 returns : tie.Need-returns
-returns c = ?
+returns c = node-piece _ _ _ _ _ _ refl ((c .before .if1 .taken))
 
 -- src/node.rt:255:9
 family-requires : tie.Need-family-requires
@@ -48,7 +58,7 @@ same-length c = search needs
 
 -- src/node.rt:257:9
 returns-2 : tie.Need-returns-2
-returns-2 c = ?
+returns-2 c = node-lost _ _ _ _ _ ((c .before .before .before .family .ensures)) ((c .if2 .taken))
 
 -- src/node.rt:259:15
 slice-read-own : tie.Need-slice-read-own
@@ -56,7 +66,7 @@ slice-read-own c = search needs
 
 -- src/node.rt:260:5
 ruled-requires : tie.Need-ruled-requires
-ruled-requires c κs = ?
+ruled-requires c κs = (record { short = (c .before .before .before .before .before .before .before .before .before .before .before .before .before .before .before .before .before .pre .short); within = (c .before .before .before .before .before .before .before .before .before .before .before .before .before .before .before .before .before .pre .within); small = (c .before .before .before .before .before .before .before .before .before .before .before .before .before .before .before .before .before .pre .small); marked = omega (arith, (c .before .before .before .before .before .before .before .before .before .before .before .before .before .before .before .before .before .pre .marked), (c .before .before .before .before .before .before .before .family .ensures .long)); deep = (c .before .before .before .before .before .before .before .before .before .before .before .before .before .before .before .before .before .pre .deep); keyed = (c .before .before .before .before .before .before .before .before .before .before .before .before .before .before .before .before .before .pre .keyed); few = (c .before .before .before .before .before .before .before .before .before .before .before .before .before .before .before .before .before .pre .few) }, family-linked [] [] _ _ [] ((c .before .before .before .before .before .before .before .family .ensures)) (λ z. omega (arith, z, (c .before .before .before .before .if2 .left))), (c .before .before .before .before .before .before .before .before .before .if1 .left))
 
 -- src/node.rt:240:1
 same-length-2 : tie.Need-same-length-2
@@ -72,7 +82,7 @@ same-length-4 c = search needs
 
 -- src/node.rt:240:1
 returns-3 : tie.Need-returns-3
-returns-3 c = ?
+returns-3 c = node-by _ _ _ _ _ ((c .before .before .before .before .before .before .before .before .before .before .before .before .before .before .if1 .left)) ((c .before .before .before .before .before .before .before .before .before .before .before .before .family .ensures)) (λ z. omega (arith, z, (c .before .before .before .before .before .before .before .before .before .if2 .left))) refl ((c .before .before .before .before .ruled .ensures))
 
 pub node-spec : {M : Type 1} → statement M
 node-spec =

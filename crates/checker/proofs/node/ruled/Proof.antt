@@ -1,3 +1,11 @@
+use Prim.Native.Nat.{_-_, _+_, _*_, _<_, _≤_}
+use mathlib.Core.Path.{_≡_, refl, sym, ap, subst, _∙_}
+use borrow.Author.Tests.{not-true, not-false}
+use Rattle.checker.proofs.Nodes.{left-no, left-by, is-t, not-t, first-as, left-as, laid-as, text-as, opened-as, node-piece, node-lost, node-by, family-linked}
+use Rattle.checker.proofs.Heads.{head-no, head-known, head-by}
+use Rattle.checker.proofs.Growns.{grown-none, grown-left-no, left-known, grown-by}
+use Rattle.checker.proofs.TextHeads.{template-first-no, template-flag-no, template-mode, template-by, heredoc-first-no, heredoc-no, heredoc-flag-no, heredoc-mode, heredoc-by, string-kids, string-by}
+use Rattle.checker.proofs.Lays.{chain-le, next-of}
 use borrow.Author.Needs.{needs}
 use Rattle.checker.proofs.node.ruled.Statement.{statement}
 use Rattle.checker.proofs.node.ruled.Tie as tie
@@ -24,7 +32,7 @@ shared-slice-read-kind c = search needs
 
 -- src/node.rt:223:13
 returns : tie.Need-returns
-returns c = ?
+returns c = string-kids _ _ _ _ _ _ _ _ ((c .before .if1 .taken)) ((c .if2 .taken))
 
 -- src/node.rt:225:9
 string-requires : tie.Need-string-requires
@@ -32,7 +40,7 @@ string-requires c κs = search needs
 
 -- src/node.rt:225:9
 returns-2 : tie.Need-returns-2
-returns-2 c = ?
+returns-2 c = string-by _ _ _ _ _ _ _ _ ((c .before .before .if1 .taken)) ((c .before .if2 .left)) ((c .string .ensures))
 
 -- src/node.rt:228:9
 template-requires : tie.Need-template-requires
@@ -64,7 +72,7 @@ is-grown-requires c κs = search needs
 
 -- src/node.rt:234:9
 grown-requires : tie.Need-grown-requires
-grown-requires c κs = ?
+grown-requires c κs = ((c .before .before .before .before .before .before .before .before .before .before .before .before .before .before .pre .0), (c .before .before .before .before .before .before .before .before .before .before .before .before .before .before .pre .1), sym ((c .before .before .before .is-grown .ensures)) ∙ (c .before .before .if5 .taken))
 
 -- src/node.rt:234:9
 same-length-3 : tie.Need-same-length-3
@@ -80,7 +88,7 @@ returns-5 c = search needs
 
 -- src/node.rt:236:5
 headed-requires : tie.Need-headed-requires
-headed-requires c κs = ?
+headed-requires c κs = ((c .before .before .before .before .before .before .before .before .before .before .before .before .before .before .pre .0), (c .before .before .before .before .before .before .before .before .before .before .before .before .before .before .pre .1), sym ((c .before .before .before .is-grown .ensures)) ∙ (c .before .before .if5 .left), ((c .before .before .before .before .before .before .if1 .left), (c .before .before .before .before .before .if3 .left), (c .before .before .before .before .if4 .left), (c .before .before .before .before .before .before .before .before .before .before .before .before .before .before .pre .2)))
 
 -- src/node.rt:206:1
 same-length-5 : tie.Need-same-length-5
