@@ -36,6 +36,7 @@ pub mod RowLaws
 pub mod Demands
 pub mod DemandLaws
 pub mod OrderLaws
+pub mod FitLaws
 pub mod RuleShown
 pub mod UnitLaws
 pub mod TextLaws

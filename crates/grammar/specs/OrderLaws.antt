@@ -1,6 +1,6 @@
 -- No row of a table at which the rule holds is empty.
 use Prim.Native.Nat.{ℕ, zero, suc, _+_, _<_}
-use mathlib.Core.Path.{refl, sym, subst}
+use mathlib.Core.Path.{_≡_, refl, sym, subst}
 use mathlib.Core.List.{List, [], _∷_, _++_}
 use native.Mathlib.Omega.{arith}
 use lib.ListN.{length}
@@ -48,7 +48,7 @@ abbrev pub Ordered : Record → Type 0
 Ordered r = r .start < r .end
 
 module _ (s : List ℕ) where
-  tree-ordered : {d : Under × ℕ} {t : Tree ℕ} → Every (Local (hcl s)) d t → (recOf t) .start < (recOf t) .end
+  pub tree-ordered : {d : Under × ℕ} {t : Tree ℕ} → Every (Local (hcl s)) d t → (recOf t) .start < (recOf t) .end
   tree-ordered {d} (every v es) =
       let (x, o) = of-some (d .0 .want) in
       omega (arith, every-bound s (every v es) x o .nodes)
@@ -64,6 +64,10 @@ module _ (s : List ℕ) where
   -- the rule holds at every node of a reading
   pub derived-every : (t : Tree ℕ) → Derives s t → Every (Local (hcl s)) (root, 0) t
   derived-every t d = reads-ruled (hcl s) (pace s) (going s) (sane s) root 0 t (reads-whole (hcl s) (pace s) (going s) root 0 t .1 (d .derived)) .1
+
+  -- which starts with the source
+  pub derived-start : (t : Tree ℕ) → Derives s t → (recOf t) .start ≡ 0
+  derived-start t d = reads-ruled (hcl s) (pace s) (going s) (sane s) root 0 t (reads-whole (hcl s) (pace s) (going s) root 0 t .1 (d .derived)) .0
 
 -- ---- no row is empty
 
