@@ -28,6 +28,10 @@ pub each-join : (P : Record → Type 0) (xs ys : List Record) → Each P xs → 
 each-join P [] ys h g = g
 each-join P (x ∷ xs) ys (a, h) g = (a, each-join P xs ys h g)
 
+pub each-split : (P : Record → Type 0) (xs ys : List Record) → Each P (xs ++ ys) → Each P xs × Each P ys
+each-split P [] ys h = (tt, h)
+each-split P (x ∷ xs) ys (a, h) = let (b, c) = each-split P xs ys h in ((a, b), c)
+
 pub each-at : (P : Record → Type 0) (rows : List Record) → Each P rows → (i : ℕ) → i < length rows → P (rowsIn rows i)
 each-at P [] h i w = absurd (omega arith)
 each-at P (r ∷ rows) (a, h) zero w = a
