@@ -61,15 +61,20 @@ follower k h = record {
   where
     others : List ℕ
     others = 17 ∷ 13 ∷ 38 ∷ 39 ∷ 40 ∷ 41 ∷ 42 ∷ 20 ∷ 10 ∷ 14 ∷ 12 ∷ 6 ∷ 0 ∷ []
+
     test : T (grows k)
     test = listed grows followers tt k h
+
     is-f : (b : Bool) → T (not b) → b ≡ false
     is-f true z = absurd z
     is-f false z = refl
+
     off : (x : ℕ) → T (has others x) → eqb k x ≡ false
     off x z = is-f (eqb k x) (has-all (λ x. not (eqb k x)) others (and-t (has laidOut k) _ test .1) x z)
+
     apart : (k : ℕ) → T (leb k 37) → (leb 38 k && leb k 42) ≡ false
     apart k z = let l = leb→le k 37 z in ap (λ (b : Bool). b && leb k 42) (lt-leb 38 k (omega arith))
+
     none-of : (a b c d e : Bool) → a ≡ false → b ≡ false → c ≡ false → d ≡ false → e ≡ false → wantAs a b c d e ≡ anExpression
     none-of true b c d e p q r s u = clash p
     none-of false true c d e p q r s u = clash q

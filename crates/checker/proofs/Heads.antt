@@ -197,6 +197,7 @@ module _ (s t : List ℕ) (i own : ℕ) where
       where
         test : ℕ → Bool
         test k = eqb k 6 || (eqb k 7 || (eqb k 8 || (eqb k 9 || has laidOut k)))
+
         go : (b : Bool) → eqb kind 14 ≡ b → T (has laidOut kind)
         go true e = subst (λ (k : ℕ). T (has laidOut k)) (sym (eqb-true kind 14 e)) tt
         go false e =

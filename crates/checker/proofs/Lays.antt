@@ -51,6 +51,7 @@ fit-any c w n l h = go c
     t-is : (b : Bool) → T b → b ≡ true
     t-is true z = refl
     t-is false z = absurd z
+
     same : (c : Class) → fits (under 0 true w) c ≡ fits (under n l w) c
     same inside = refl
     same single = refl
@@ -65,6 +66,7 @@ fit-any c w n l h = go c
     same portion = refl
     same piecewise = refl
     same filter = refl
+
     go : (d : Class) → fits (under n l w) c ≡ true
     go d = sym (same c) ∙ t-is (fits (under 0 true w) c) h
 
@@ -277,6 +279,7 @@ module _ (s t : List ℕ) (i left : ℕ) (lines : Bool) where
       where
         list : (js : List ℕ) {ks : List (Rec ℕ)} → Children t i m j₀ ks js → js ≡ w .js₀
         list js c = chain-same m i js (w .js₀) j₀ (c .chain) (w .first)
+
         end : (ks : List (Rec ℕ)) → Over s t i left lines ks (w .lay) q (map (recAt t) (w .js)) []
         end ks =
             subst (λ (l : Layout). Over s t i left lines ks l q (map (recAt t) (w .js)) []) (sym e)
@@ -392,8 +395,8 @@ module _ (s t : List ℕ) (i left : ℕ) (lines : Bool) where
         go-on l (pc + 1) q′ (c .2) (and-t (ltb pc instructions) (ahead (pc + 1) l) a .1) f v
         (λ ks rs bs o. subst (λ (z : Layout). Over s t i left lines ks z q rs bs) (sym is) (rmove q′ yes o))
         (λ ks rs bs o.
-            let (y, h, u) = over-move (hcl s) (Both s) (subst (λ (z : Layout). Over s t i left lines ks z q rs bs) is o) in
-            subst (λ (z : ℕ). Over s t i left lines ks l z rs bs) (some-is (sym h ∙ yes)) u)
+        let (y, h, u) = over-move (hcl s) (Both s) (subst (λ (z : Layout). Over s t i left lines ks z q rs bs) is o) in
+        subst (λ (z : ℕ). Over s t i left lines ks l z rs bs) (some-is (sym h ∙ yes)) u)
     on-as (kid x l) is c a f v e₁ e₃ e₅ q′ g = absurd (e₃ (c .0))
     on-as (fork x l r) is c a f v e₁ e₃ e₅ q′ g =
         let yes : gone x q ≡ some q′ = subst (λ (z : Move). gone z q ≡ some q′) (c .1) g in

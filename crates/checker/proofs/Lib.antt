@@ -18,3 +18,8 @@ mod Heads
 mod TextHeads
 mod Growns
 mod Nodes
+mod Texteds
+mod Tabled
+mod Walks
+mod Checks
+mod WalkEnds

@@ -199,9 +199,9 @@ module _ (s t : List ℕ) (i : ℕ) (m D K : List ℕ) (j n c left : ℕ) (lines
     pass-met v z e =
         pass-no e (v .long)
         (λ l a f w σ ks k b.
-            let (q, f′) = v .old z in
-            let g = h .item q in
-            f′ ks (k g) (subst (λ (o : Class). More s (downs s (under left lines w) o σ ks .want) (recAt t j)) g (b .1 .more)))
+        let (q, f′) = v .old z in
+        let g = h .item q in
+        f′ ks (k g) (subst (λ (o : Class). More s (downs s (under left lines w) o σ ks .want) (recAt t j)) g (b .1 .more)))
 
     pub pass-yes : {b : Bool} {K′ : List ℕ} {x : Met} {v : ℕ} {r : Passed} → SuitsAt t j at (y .bound) (y .want) b → b ≡ true → MetAt s K K′ n ((rowAt t j) .start) (y .want) x → x .met ≡ false → j < i → v ≡ y .left + y .left + cond (y .lines) 1 0
         → (rowAt t j) .end ≡ r .end → getD m j 0 ≡ r .next → r .keys ≡ x .keys → r .good ≡ true → PassedBy s t i m D (set D j v) K K′ j n c left lines at r

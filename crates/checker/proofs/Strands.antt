@@ -198,6 +198,7 @@ module _ (s text t : List ℕ) (j q : ℕ) (plain : Bool) (d e : ℕ) where
     where
       same : (x k : ℕ) → T (eqb x k) → x ≡ k
       same x k h = eqb→eq x k h
+
       go : T (eqb 9 ((rowAt t j) .kind)) ⊎ T (eqb 10 ((rowAt t j) .kind) || false) → ⊥
       go (inl h) = f (sym (same 9 ((rowAt t j) .kind) h))
       go (inr h) = last (or-t (eqb 10 ((rowAt t j) .kind)) false h)

@@ -80,8 +80,10 @@ module _ (s text t : List ℕ) (i own : ℕ) (m D : List ℕ) (j : ℕ) where
     where
       nameAs : Bool → ℕ
       nameAs b = named (hcl s) (cond b 1 0) k
+
       grown : isGrown kind ≡ false
       grown = ap isGrown is ∙ g
+
       inner : (js : List ℕ) {ds : List Depth} (x : Headed s t i own (map (recAt t) js) ds) → Text s t i own p js (x .below)
       inner js x = b .down (map (recAt t) js) (x .below) (subst (λ (o : ℕ). Over s t i (own / 2) (eqb (own % 2) 1) [] (layoutOf o) start (map (recAt t) js) (x .below)) (sort-is s t i own (λ f. n (sym is ∙ f)) x ∙ is) (x .over))
 
@@ -292,8 +294,10 @@ module _ (s text t : List ℕ) (i own : ℕ) (m D : List ℕ) (j : ℕ) where
       none-tests : {xs : List (Want × ℕ)} {rs : List (Rec ℕ)} → rs ≡ [] → Tests (Suits s) xs rs → xs ≡ []
       none-tests e tnil = refl
       none-tests e (tcons x y) = absurd (let z : _≡_ {A = ℕ} 0 1 = cc in omega arith)
+
       none-map : (bs : List (Under × ℕ)) → map wanted bs ≡ [] → bs ≡ []
       none-map [] e = refl
       none-map (b ∷ bs) e = absurd (let z : _≡_ {A = ℕ} 0 1 = cc in omega arith)
+
       none-below : {ds : List Depth} (l : Laid s (coded own) (recAt t i) [] ds) → l .below ≡ []
       none-below l = none-map (l .below) (none-tests refl (l .suits))

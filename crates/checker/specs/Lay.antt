@@ -66,7 +66,7 @@ pub record Passing (t : List ℕ) (i : ℕ) (m D K : List ℕ) (j n left : ℕ) 
   pub deep : i < length D
   pub keyed : i < length K
   pub fewer : n ≤ j
-  pub few : left ≤ 64
+  pub few : left ≤ 127
 
 -- `r` says whether the row j is a child of the class c at the place `at`; then its depth is put down
 pub record PassedBy (s t : List ℕ) (i : ℕ) (m D D′ K K′ : List ℕ) (j n c left : ℕ) (lines : Bool) (at : ℕ) (r : Passed) : Type 0 where
@@ -108,7 +108,7 @@ pub record Laying (t : List ℕ) (i : ℕ) (m D K : List ℕ) (j left : ℕ) : T
   pub marked : i < length m
   pub deep : i < length D
   pub keyed : i < length K
-  pub few : left ≤ 64
+  pub few : left ≤ 127
   pub js : List ℕ
   pub chain : Chain m i js j
   pub known : T (has laidOut ((rowAt t i) .kind))

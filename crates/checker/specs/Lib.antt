@@ -6,3 +6,4 @@ pub mod Family
 pub mod Lay
 pub mod Texts
 pub mod Node
+pub mod Check

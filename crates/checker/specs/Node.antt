@@ -27,7 +27,6 @@ pub record Noding (s t : List ℕ) (i : ℕ) (m D K : List ℕ) (own : ℕ) : Ty
   pub marked : i < length m
   pub deep : i < length D
   pub keyed : i < length K
-  pub few : own / 2 ≤ 64
 
 -- the kinds without literal text
 abbrev pub NoText : ℕ → Type 0

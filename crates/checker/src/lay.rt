@@ -50,7 +50,18 @@ pub fn lay(
         }
         if x.op == Instr::KID {
             let c = pass(
-                s, table, i, marks, depths, keys, j, n, x.class, left, lines, q,
+                s,
+                table,
+                i,
+                marks,
+                depths,
+                keys,
+                j,
+                n,
+                x.class,
+                left,
+                lines,
+                q,
             );
             if !c.good {
                 return false;
@@ -71,7 +82,18 @@ pub fn lay(
         }
         if x.op == Instr::REP {
             let c = pass(
-                s, table, i, marks, depths, keys, j, n, x.class, left, lines, w.at,
+                s,
+                table,
+                i,
+                marks,
+                depths,
+                keys,
+                j,
+                n,
+                x.class,
+                left,
+                lines,
+                w.at,
             );
             if !c.good {
                 return false;

@@ -27,7 +27,7 @@ const EXPRESSION: u8 = 0;
 
 // The levels left, in a depth.
 fn levels(own: u8) -> usize
-    ensures { λ r. ⌜ r ≡ own / 2 ⌝ }
+    ensures { λ r. ⌜ (r ≡ own / 2) × (r ≤ 127) ⌝ }
 {
     (own / 2) as usize
 }
@@ -108,7 +108,18 @@ fn heredoc(
         return false;
     }
     texts(
-        s, text, table, i, marks, depths, first, o.at, own, false, o.from, o.to,
+        s,
+        text,
+        table,
+        i,
+        marks,
+        depths,
+        first,
+        o.at,
+        own,
+        false,
+        o.from,
+        o.to,
     )
 }
 

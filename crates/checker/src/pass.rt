@@ -77,7 +77,7 @@ fn meet(s: &[u8], keys: &mut [u16], n: usize, p: u16, want: u8) -> Met
 
 // A depth in one number.
 pub fn packed(left: usize, lines: bool) -> u8
-    requires { ⌜ left ≤ 64 ⌝ }
+    requires { ⌜ left ≤ 127 ⌝ }
     ensures { λ r. ⌜ r ≡ left + left + cond lines 1 0 ⌝ }
 {
     if lines {

@@ -45,7 +45,7 @@ use Rattle.grammar.specs.Demands.{Fair, Derives, nodesOf, bytesOf, Answe
 
 -- ---- the first bad sequence is where what stands before it is well formed and no sequence stands
 
-formed-on : {w : List ℕ} → Formed w → (r : List ℕ) → firstBad (w ++ r) ≡ length w + firstBad r
+pub formed-on : {w : List ℕ} → Formed w → (r : List ℕ) → firstBad (w ++ r) ≡ length w + firstBad r
 formed-on none r = omega arith
 formed-on (more w v pos e f) r = go (length w) refl (formed-on f r)
   where

@@ -65,8 +65,10 @@ module _ (s : List ℕ) (a : Under) (σ : ℕ) where
       where
         stays : place (to p) ≡ some q → q ≡ p
         stays f = sym (some-is f)
+
         never : none ≡ some q → q ≡ p
         never f = absurd (let z : _≡_ {A = ℕ} 0 1 = cc in omega arith)
+
         by : (y : Why) → place (goesAs p (not y)) ≡ some q → q ≡ p
         by why.Quote f = never f
         by why.Interpolation f = stays f
@@ -75,6 +77,7 @@ module _ (s : List ℕ) (a : Under) (σ : ℕ) where
         by why.Closing f = never f
         by why.Foreign f = never f
         by why.End f = never f
+
         go : (u : Unit) → place (goesAs p u) ≡ some q → q ≡ p
         go (is w bs x) f = stays f
         go (not y) f = by y f

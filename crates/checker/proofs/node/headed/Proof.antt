@@ -1,4 +1,3 @@
-use native.Mathlib.Omega.{arith}
 use Prim.Native.Nat.{_-_, _+_, _*_, _<_, _≤_}
 use mathlib.Core.Path.{_≡_, refl, sym, ap, subst, _∙_}
 use borrow.Author.Tests.{not-true, not-false}
@@ -70,7 +69,7 @@ levels-requires c κs = search needs
 
 -- src/node.rt:191:5
 lay-requires : tie.Need-lay-requires
-lay-requires c κs = record { within = (c .before .before .before .before .before .before .before .before .before .before .before .before .before .before .before .pre .0 .within); marked = (c .before .before .before .before .before .before .before .before .before .before .before .before .before .before .before .pre .0 .marked); deep = (c .before .before .before .before .before .before .before .before .before .before .before .before .before .before .before .pre .0 .deep); keyed = (c .before .before .before .before .before .before .before .before .before .before .before .before .before .before .before .pre .0 .keyed); few = omega (arith, (c .levels .ensures), (c .before .before .before .before .before .before .before .before .before .before .before .before .before .before .before .pre .0 .few)); js = (c .before .before .before .before .before .before .before .before .before .before .before .before .before .before .before .pre .1 .js); chain = (c .before .before .before .before .before .before .before .before .before .before .before .before .before .before .before .pre .1 .chain); known = head-known ((c .before .before .before .before .before .before .before .before .before .before .before .before .before .before .before .args .s .now)) ((c .before .before .before .before .before .before .before .before .before .before .before .before .before .before .before .args .table .now)) ((c .before .before .before .before .before .before .before .before .before .before .before .before .before .before .before .args .i)) ((c .before .before .before .before .before .before .before .before .before .before .before .before .before .before .before .args .own)) [] [] [] 0 ((c .before .before .before .before .before .before .before .before .before .before .before .before .before .before .before .pre .2)) ((c .before .before .before .before .before .before .before .before .before .before .before .before .before .before .before .pre .3)) (not-false _ ((c .before .before .before .if1 .left))) (first-as ((c .before .before .before .before .before .before .wide .ensures .0)) ((c .before .before .before .before .before .multi-line .ensures)) ((c .before .before .before .before .first-at .ensures))) }
+lay-requires c κs = record { within = (c .before .before .before .before .before .before .before .before .before .before .before .before .before .before .before .pre .0 .within); marked = (c .before .before .before .before .before .before .before .before .before .before .before .before .before .before .before .pre .0 .marked); deep = (c .before .before .before .before .before .before .before .before .before .before .before .before .before .before .before .pre .0 .deep); keyed = (c .before .before .before .before .before .before .before .before .before .before .before .before .before .before .before .pre .0 .keyed); few = (c .levels .ensures .1); js = (c .before .before .before .before .before .before .before .before .before .before .before .before .before .before .before .pre .1 .js); chain = (c .before .before .before .before .before .before .before .before .before .before .before .before .before .before .before .pre .1 .chain); known = head-known ((c .before .before .before .before .before .before .before .before .before .before .before .before .before .before .before .args .s .now)) ((c .before .before .before .before .before .before .before .before .before .before .before .before .before .before .before .args .table .now)) ((c .before .before .before .before .before .before .before .before .before .before .before .before .before .before .before .args .i)) ((c .before .before .before .before .before .before .before .before .before .before .before .before .before .before .before .args .own)) [] [] [] 0 ((c .before .before .before .before .before .before .before .before .before .before .before .before .before .before .before .pre .2)) ((c .before .before .before .before .before .before .before .before .before .before .before .before .before .before .before .pre .3)) (not-false _ ((c .before .before .before .if1 .left))) (first-as ((c .before .before .before .before .before .before .wide .ensures .0)) ((c .before .before .before .before .before .multi-line .ensures)) ((c .before .before .before .before .first-at .ensures))) }
 
 -- src/node.rt:171:1
 same-length : tie.Need-same-length
@@ -82,7 +81,7 @@ same-length-2 c = search needs
 
 -- src/node.rt:171:1
 returns-2 : tie.Need-returns-2
-returns-2 c = head-by _ _ _ _ _ _ _ _ ((c .before .before .before .before .before .before .before .before .before .before .before .before .before .before .before .before .before .before .before .before .pre .2)) ((c .before .before .before .before .before .before .before .before .before .before .before .before .before .before .before .before .before .before .before .before .pre .3)) (not-false _ ((c .before .before .before .before .before .before .before .before .if1 .left))) (first-as ((c .before .before .before .before .before .before .before .before .before .before .before .wide .ensures .0)) ((c .before .before .before .before .before .before .before .before .before .before .multi-line .ensures)) ((c .before .before .before .before .before .before .before .before .before .first-at .ensures))) (laid-as ((c .before .before .before .before .before .before .before .before .before .before .before .wide .ensures .0)) ((c .before .before .before .before .before .levels .ensures)) ((c .before .before .before .before .before .before .before .before .before .before .multi-line .ensures)) ((c .before .before .before .before .lay .ensures)))
+returns-2 c = head-by _ _ _ _ _ _ _ _ ((c .before .before .before .before .before .before .before .before .before .before .before .before .before .before .before .before .before .before .before .before .pre .2)) ((c .before .before .before .before .before .before .before .before .before .before .before .before .before .before .before .before .before .before .before .before .pre .3)) (not-false _ ((c .before .before .before .before .before .before .before .before .if1 .left))) (first-as ((c .before .before .before .before .before .before .before .before .before .before .before .wide .ensures .0)) ((c .before .before .before .before .before .before .before .before .before .before .multi-line .ensures)) ((c .before .before .before .before .before .before .before .before .before .first-at .ensures))) (laid-as ((c .before .before .before .before .before .before .before .before .before .before .before .wide .ensures .0)) ((c .before .before .before .before .before .levels .ensures .0)) ((c .before .before .before .before .before .before .before .before .before .before .multi-line .ensures)) ((c .before .before .before .before .lay .ensures)))
 
 pub headed-spec : {M : Type 1} → statement M
 headed-spec =

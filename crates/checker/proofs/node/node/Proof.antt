@@ -66,7 +66,7 @@ slice-read-own c = search needs
 
 -- src/node.rt:260:5
 ruled-requires : tie.Need-ruled-requires
-ruled-requires c κs = (record { short = (c .before .before .before .before .before .before .before .before .before .before .before .before .before .before .before .before .before .pre .short); within = (c .before .before .before .before .before .before .before .before .before .before .before .before .before .before .before .before .before .pre .within); small = (c .before .before .before .before .before .before .before .before .before .before .before .before .before .before .before .before .before .pre .small); marked = omega (arith, (c .before .before .before .before .before .before .before .before .before .before .before .before .before .before .before .before .before .pre .marked), (c .before .before .before .before .before .before .before .family .ensures .long)); deep = (c .before .before .before .before .before .before .before .before .before .before .before .before .before .before .before .before .before .pre .deep); keyed = (c .before .before .before .before .before .before .before .before .before .before .before .before .before .before .before .before .before .pre .keyed); few = (c .before .before .before .before .before .before .before .before .before .before .before .before .before .before .before .before .before .pre .few) }, family-linked [] [] _ _ [] ((c .before .before .before .before .before .before .before .family .ensures)) (λ z. omega (arith, z, (c .before .before .before .before .if2 .left))), (c .before .before .before .before .before .before .before .before .before .if1 .left))
+ruled-requires c κs = (record { short = (c .before .before .before .before .before .before .before .before .before .before .before .before .before .before .before .before .before .pre .short); within = (c .before .before .before .before .before .before .before .before .before .before .before .before .before .before .before .before .before .pre .within); small = (c .before .before .before .before .before .before .before .before .before .before .before .before .before .before .before .before .before .pre .small); marked = omega (arith, (c .before .before .before .before .before .before .before .before .before .before .before .before .before .before .before .before .before .pre .marked), (c .before .before .before .before .before .before .before .family .ensures .long)); deep = (c .before .before .before .before .before .before .before .before .before .before .before .before .before .before .before .before .before .pre .deep); keyed = (c .before .before .before .before .before .before .before .before .before .before .before .before .before .before .before .before .before .pre .keyed) }, family-linked [] [] _ _ [] ((c .before .before .before .before .before .before .before .family .ensures)) (λ z. omega (arith, z, (c .before .before .before .before .if2 .left))), (c .before .before .before .before .before .before .before .before .before .if1 .left))
 
 -- src/node.rt:240:1
 same-length-2 : tie.Need-same-length-2
