@@ -7,3 +7,4 @@ pub mod Lay
 pub mod Texts
 pub mod Node
 pub mod Check
+pub mod CheckLaws
