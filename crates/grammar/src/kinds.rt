@@ -133,7 +133,7 @@ impl Limit {
     pub const RECORD: usize = 7;
 }
 
-// How tightly a kind binds: the conditional 1, the operators by level 2 to 7, the traversal 8, all else 9; 0 for what is no kind.
+// How tightly a kind binds: the conditional 1, the operators by level 2 to 7, the traversal 8, all else 9; 0 for what is no kind. Long, as a line for each kind is a table that stays.
 pub fn tight(kind: u16) -> u8
     ensures { λ r. ⌜ r ≡ tightOf kind ⌝ }
 {

@@ -232,7 +232,7 @@ pub fn atom(s: &[u8], left: usize, lines: bool, code: u8, x: u8, p: usize) -> We
     }
 }
 
-// The number of the atom at a: the atoms of the moves, one move after the other, code and argument, a byte each, the code lowest; 0 behind each move and past the last.
+// The number of the atom at a: the atoms of the moves, one move after the other, code and argument, a byte each, the code lowest; 0 behind each move and past the last. Long, as a line for each is a table that stays.
 fn number(a: usize) -> u16
     ensures { λ r. ⌜ Numbered a r ⌝ }
 {

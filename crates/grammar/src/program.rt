@@ -6,7 +6,7 @@ ghost use Prim.Native.Nat.{_-_};
 ghost use Rattle.grammar.specs.Code.{code, begin};
 ghost use Rattle.grammar.specs.Said.{Worded, Instructed, ChildOf};
 
-// Operation, argument, class and where to go on, a byte each, the first lowest. An array would be made anew at every look; of a match the compiler makes a table that stays.
+// Operation, argument, class and where to go on, a byte each, the first lowest. Long, as an array would be made anew at every look, and of a match the compiler makes a table that stays.
 fn word(pc: usize) -> u32
     ensures { λ r. ⌜ Worded pc r ⌝ }
 {
@@ -256,7 +256,7 @@ pub fn instr(pc: usize) -> Instr
     }
 }
 
-// Where the program of a kind starts; 0 for the kinds that have none.
+// Where the program of a kind starts; 0 for the kinds that have none. Long, as a line for each kind is a table that stays.
 pub fn begin(kind: u16) -> usize
     ensures { λ r. ⌜ r ≡ begin kind ⌝ }
 {
