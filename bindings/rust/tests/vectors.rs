@@ -1,25 +1,9 @@
 //! The sources that `replay` is run on, with the answers that an independent reading gives them, through this crate.
+mod common;
+
+use common::{assert_tree, file, sources};
 use std::fmt::Write;
-use std::fs;
-use std::path::Path;
-use vealtikum::{parse, read, Answer, Refusal, Table, LONGEST, WIDTH};
-
-fn file(name: &str) -> Vec<u8> {
-    let path = Path::new(env!("CARGO_MANIFEST_DIR")).join("../../crates/replay").join(name);
-    fs::read(&path).unwrap_or_else(|why| panic!("{}: {why}", path.display()))
-}
-
-/// Each source stands behind its length, four bytes with the lowest first.
-fn sources(list: &[u8]) -> Vec<&[u8]> {
-    let (mut rest, mut found) = (list, Vec::new());
-    while let Some(head) = rest.get(..4) {
-        let end = 4 + u32::from_le_bytes(head.try_into().unwrap()) as usize;
-        found.push(&rest[4..end]);
-        rest = &rest[end..];
-    }
-    assert!(rest.is_empty());
-    found
-}
+use vealtikum::{parse, read, Answer, Refusal, LONGEST, WIDTH};
 
 /// The lines that `replay` prints of an answer.
 fn lines(source: &[u8], answer: Answer<'_>) -> String {
@@ -45,24 +29,6 @@ fn needs(refusal: Refusal) -> (usize, usize) {
         Refusal::Slots { nodes, text } | Refusal::Text { nodes, text } => (nodes, text),
         _ => (0, 0),
     }
-}
-
-/// A table's tree has each record once, with children inside their parents and in order.
-fn assert_tree(table: Table<'_>) {
-    let mut seen = vec![false; table.len()];
-    for (depth, node) in table.walk() {
-        assert!(!std::mem::replace(&mut seen[node.index()], true));
-        assert_eq!(depth == 0, node.index() == table.root().index());
-        assert_eq!(node.count(), 1 + node.children().map(|child| child.count()).sum::<usize>());
-        let mut end = node.span().start;
-        for child in node.children() {
-            assert!(end <= child.span().start && child.span().end <= node.span().end);
-            end = child.span().end;
-        }
-        assert_eq!(node.text().is_some(), matches!(node.kind().number(), 6 | 9));
-        assert_eq!(node.text(), node.text_str().map(str::as_bytes));
-    }
-    assert!(seen.iter().all(|&s| s));
 }
 
 #[test]
