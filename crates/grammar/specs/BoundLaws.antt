@@ -198,7 +198,7 @@ module _ (s : List ℕ) where
   one-atom b σ a p q e = by-then (atom s b σ a p) (walk s b σ []) (place-to q e) (λ r f g. f ∙ g)
 
   -- the quote that a string starts with
-  quote-is : (b : Under) (σ p q : ℕ) → atom s b σ (mark (34 ∷ []) []) p ≡ to q → (byteAt s p ≡ 34) × (q ≡ p + 1)
+  pub quote-is : (b : Under) (σ p q : ℕ) → atom s b σ (mark (34 ∷ []) []) p ≡ to q → (byteAt s p ≡ 34) × (q ≡ p + 1)
   unfolding atom
   quote-is b σ p q e =
       by-test (isMark (34 ∷ []) [] s p) e

@@ -45,7 +45,7 @@ use Rattle.grammar.specs.Demands.{Fair, Derives, nodesOf, bytesOf, Answe
 
 -- ---- the first bad sequence is where what stands before it is well formed and no sequence stands
 
-formed-on : {w : List ℕ} → Formed w → (r : List ℕ) → firstBad (w ++ r) ≡ length w + firstBad r
+pub formed-on : {w : List ℕ} → Formed w → (r : List ℕ) → firstBad (w ++ r) ≡ length w + firstBad r
 formed-on none r = omega arith
 formed-on (more w v pos e f) r = go (length w) refl (formed-on f r)
   where
@@ -246,14 +246,14 @@ module _ (s table words : List ℕ) where
   not-piece k t e = subst (λ (x : ℕ). T (has (kindsOf anExpression 0) x)) e t
 
   -- the tree of a table at which the rule holds
-  record Found (rows : List Record) : Type 0 where
-    tree : Tree ℕ
-    derives : Derives s tree
-    rows-are : rows ≡ recordsOf s 0 0 tree
-    table-is : numbers (tableOf s tree) ≡ table
-    words-is : wordsOf s tree ≡ words
+  pub record Found (rows : List Record) : Type 0 where
+    pub tree : Tree ℕ
+    pub derives : Derives s tree
+    pub rows-are : rows ≡ recordsOf s 0 0 tree
+    pub table-is : numbers (tableOf s tree) ≡ table
+    pub words-is : wordsOf s tree ≡ words
 
-  holds-found : (h : Holds s table words) → Found (h .rows)
+  pub holds-found : (h : Holds s table words) → Found (h .rows)
   holds-found h =
       let f = rowsIn (h .rows) in
       let x = rows-tree s words f (h .att) (h .root) (λ j w. h .nodes j (omega (arith, h .last))) (h .all ∙ h .last) (not-piece ((f (h .root)) .kind) (h .kind)) in

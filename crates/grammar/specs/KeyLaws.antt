@@ -294,7 +294,7 @@ module _ (s : List ℕ) where
     unfolding atom
     opened q e = by-test (isMark (34 ∷ []) [] s σ) (one-atom s b σ (mark (34 ∷ []) []) σ q e) (λ t f. sym (to-is f)) (λ t f. not-made s σ f)
 
-    key-is : keyTo s σ ≡ σ + 2 + textAt quoted s (σ + 1) .width
+    pub key-is : keyTo s σ ≡ σ + 2 + textAt quoted s (σ + 1) .width
     key-is = rw z
 
     string-ends : (q q′ e : ℕ) → q ≡ σ + 1 → q′ ≡ q + textAt quoted s q .width → e ≡ q′ + 1 → e ≡ keyTo s σ
@@ -303,7 +303,7 @@ module _ (s : List ℕ) where
         let d′ : e ≡ σ + 2 + textAt quoted s (σ + 1) .width = omega arith in
         d′ ∙ sym key-is
 
-    string-end : {e φ : ℕ} {rs : List (Rec ℕ)} {bs : List (Under × ℕ)} → Runs (hcl s) (Firm (hcl s)) b σ [] stringLay σ e φ rs bs → e ≡ keyTo s σ
+    pub string-end : {e φ : ℕ} {rs : List (Rec ℕ)} {bs : List (Under × ℕ)} → Runs (hcl s) (Firm (hcl s)) b σ [] stringLay σ e φ rs bs → e ≡ keyTo s σ
     string-end (rmove q g (ryes q′ g′ (rmove q″ g″ rfin))) = string-ends q q′ q″ (opened q g) (ran false q q′ g′) (closed q′ q″ g″)
     string-end (rmove q g (rno g′ (rmove q′ g″ (rmove q″ g‴ rfin)))) = string-ends q q′ q″ (opened q g) (ran true q q′ g″) (closed q′ q″ g‴)
 

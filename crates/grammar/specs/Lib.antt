@@ -35,4 +35,8 @@ pub mod PostLaws
 pub mod RowLaws
 pub mod Demands
 pub mod DemandLaws
+pub mod OrderLaws
+pub mod FitLaws
 pub mod RuleShown
+pub mod UnitLaws
+pub mod TextLaws

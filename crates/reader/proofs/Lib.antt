@@ -8,7 +8,6 @@ mod Exprs
 mod Unaries
 mod Terms
 mod Subs
-mod Units
 mod Texts
 mod Pieces
 mod Quotes

@@ -32,10 +32,11 @@ use Rattle.grammar.specs.Table.{recordOf}
 use Rattle.reader.specs.Buffer.{putAt}
 use Rattle.reader.specs.Said.{stepOf, Asked, Closing, Climbs, Good, Kept, Makes, madeAs, Made, SaidMade, Any, underAny, anyBefore, One, Texting}
 use Rattle.reader.specs.Text.{stepFrom, Delimited, Ends, Piecing, Pieced}
-use Rattle.reader.proofs.Units.{isLine, closable, marks, foreign-within, run-none}
+use Rattle.grammar.specs.UnitLaws.{isLine, closable, marks, foreign-within, run-none}
+use Rattle.grammar.specs.TextLaws.{more-dollar, more-not, close-by, pick-dollar}
 use Rattle.reader.proofs.Stages.{Stage, stage-start, stage-rep, stage-rep-no, stage-end, stage-move, stage-stop}
 use Rattle.reader.proofs.Answers.{done, done-head, head-no, head-whole, head-whole-no, stage-made, made-no, kept-same, kept-join}
-use Rattle.reader.proofs.Texts.{more-dollar, more-not, close-by, pick-dollar, stage-piece}
+use Rattle.reader.proofs.Texts.{stage-piece}
 
 -- ---- a production that was refused
 

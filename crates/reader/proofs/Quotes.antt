@@ -28,43 +28,9 @@ use Rattle.grammar.specs.declared.moves.Went.{Went}
 use Rattle.grammar.specs.Said.{went, wentOf}
 use Rattle.reader.specs.Said.{stepOf, Asked, Heads, Said, Kept, Makes, Made, SaidMade, One, Texting}
 use Rattle.reader.specs.Text.{flagOf}
+use Rattle.grammar.specs.TextLaws.{pick-template, pick-heredoc, plain-yes, plain-no, quote-stands, opened, unexpected-is, Worded, word-opened}
 use Rattle.reader.proofs.Answers.{from-good, refused, done, done-head, head-no, kept-same}
-use Rattle.reader.proofs.Texts.{walk-one}
 use Rattle.reader.proofs.Pieces.{halted}
-
--- ---- the kind that a place calls for passed its test
-
-abbrev chosen : ℕ → List (Bool × ℕ) → Bool
-chosen k [] = false
-chosen k (x ∷ xs) = (eqb (x .1) k && x .0) || chosen k xs
-
-choose-chosen : (k : ℕ) (xs : List (Bool × ℕ)) → choose xs ≡ some k → chosen k xs ≡ true
-choose-chosen k [] e = absurd (let z : _≡_ {A = ℕ} 0 1 = cc in omega arith)
-choose-chosen k ((true, n) ∷ xs) e = let z : n ≡ k = cc in rw (eq-eqb n k z)
-choose-chosen k ((false, n) ∷ xs) e = go (eqb n k) (choose-chosen k xs e)
-  where
-    go : (b : Bool) → chosen k xs ≡ true → ((b && false) || chosen k xs) ≡ true
-    go true h = h
-    go false h = h
-
-or-none : (b : Bool) → (b || false) ≡ true → b ≡ true
-or-none true e = e
-or-none false e = e
-
-module _ (s : List ℕ) (left : ℕ) (lines : Bool) (p : ℕ) where
-  pick-chosen : (k : ℕ) → pickAt s (under left lines anExpression) p ≡ some k → chosen k (terms s lines p) ≡ true
-  unfolding pickAt
-  pick-chosen k e = choose-chosen k (terms s lines p) e
-
-  -- a quote stands before a string and a template, and `<<` before a heredoc
-  pub pick-string : pickAt s (under left lines anExpression) p ≡ some 6 → byteAt s p ≡ 34
-  pick-string e = eqb-true (byteAt s p) 34 (or-none (eqb (byteAt s p) 34) (pick-chosen 6 e))
-
-  pub pick-template : pickAt s (under left lines anExpression) p ≡ some 7 → byteAt s p ≡ 34
-  pick-template e = eqb-true (byteAt s p) 34 (and-left (eqb (byteAt s p) 34) (isTemplate s p) (or-none (eqb (byteAt s p) 34 && isTemplate s p) (pick-chosen 7 e)))
-
-  pub pick-heredoc : pickAt s (under left lines anExpression) p ≡ some 8 → stands (60 ∷ 60 ∷ []) s p ≡ true
-  pick-heredoc e = or-none (stands (60 ∷ 60 ∷ []) s p) (pick-chosen 8 e)
 
 -- ---- a production that stands first, told
 
@@ -90,18 +56,6 @@ module _ {X : Type 0} {s : List ℕ} {a : X → Under} {σ : ℕ} {ks : X → Li
 
   pub made-before : {i u before : ℕ} {b b′ x x′ : List ℕ} {r : Step} → ((ξ : X) → Way (hcl s) (mid (hcl s) (a ξ) σ (ks ξ) k l p) nil (a ξ) σ (ks ξ) k l′ q) → Made X s a σ ks k l′ q i u before b b′ x x′ r → Made X s a σ ks k l p i u before b b′ x x′ r
   made-before w m = record { out = m .out; gives = made-as w (m .out) (m .gives); told = m .told }
-
--- bytes that stand
-pub plain-yes : (s : List ℕ) (a : Under) (σ p : ℕ) (w : List ℕ) → stands w s p ≡ true → walk s a σ (plain w) p ≡ to (p + length w)
-unfolding atom
-plain-yes s a σ p w e = walk-one s a σ (mark w []) p ∙ rw e
-
-pub plain-no : (s : List ℕ) (a : Under) (σ p : ℕ) (w : List ℕ) → stands w s p ≡ false → walk s a σ (plain w) p ≡ unexpected s p
-unfolding atom
-plain-no s a σ p w e = walk-one s a σ (mark w []) p ∙ rw e
-
-pub quote-stands : (s : List ℕ) (p : ℕ) → byteAt s p ≡ 34 → stands (34 ∷ []) s p ≡ true
-quote-stands s p e = stands-one 34 s p refl ∙ eq-eqb (byteAt s p) 34 e
 
 -- ---- a template
 
@@ -132,60 +86,6 @@ module _ (s : List ℕ) (left : ℕ) (lines : Bool) (p : ℕ) (q : pickAt s (und
       (m .room) (m .spent) (m .high) (m .kept)
 
 -- ---- a heredoc
-
--- an opener as a move: to where the text begins, or refused where something else stands
-abbrev opened : List ℕ → Opener → moves.Step
-opened s o = cond (o .good) (to (o .at)) (unexpected s (o .at))
-
-pub unexpected-is : (s : List ℕ) (p : ℕ) → unexpected s p ≡ no (cond (isForeign (byteAt s p)) Foreign Unexpected) p
-unexpected-is s p = go (isForeign (byteAt s p))
-  where
-    go : (b : Bool) → when b (no Foreign p) (no Unexpected p) ≡ no (cond b Foreign Unexpected) p
-    go true = refl
-    go false = refl
-
-then-unexpected : (s : List ℕ) (p : ℕ) (f : ℕ → moves.Step) → then (unexpected s p) f ≡ unexpected s p
-then-unexpected s p f = rw (unexpected-is s p)
-
--- the delimiter and its line ending
-pub record Worded (s : List ℕ) (a : Under) (σ : ℕ) (f : Bool) (d : ℕ) (o : Opener) : Type 0 where
-  pub walks : walk s a σ (ident ∷ ending ∷ []) d ≡ opened s o
-  pub dash : o .good ≡ true → o .dash ≡ f
-  pub past : o .good ≡ true → d < o .at
-
-module _ (s : List ℕ) (a : Under) (σ : ℕ) (f : Bool) (d : ℕ) where
-  two : (x y : Atom) → walk s a σ (x ∷ y ∷ []) d ≡ then (atom s a σ x d) (walk s a σ (y ∷ []))
-  unfolding walk
-  two x y = refl
-
-  word-ended : (e n : ℕ) (b : Bool) → eqb n 0 ≡ b → lineEnd s e ≡ n → d < e → atom s a σ ident d ≡ to e → Worded s a σ f d (cond b (fails e) (opens f d e (e + n)))
-  unfolding atom
-  word-ended e n true k h low g = record {
-    walks = two ident ending ∙ rw g (walk-one s a σ ending e ∙ rw (h, eq-eqb (e + n) e (omega (arith, eqb-true n 0 k))));
-    dash = λ z. clash (sym z);
-    past = λ z. clash (sym z);
-  }
-  word-ended e n false k h low g =
-      let long = eqb-false n 0 k in
-      record {
-        walks = two ident ending ∙ rw g (walk-one s a σ ending e ∙ rw (h, ne-eqb (e + n) e (λ z. omega arith)));
-        dash = λ z. refl;
-        past = λ z. omega arith;
-      }
-
-  pub word-opened : Worded s a σ f d (openerWord s f d)
-  unfolding atom
-  word-opened = go (isStart (byteAt s d)) refl
-    where
-      go : (b : Bool) → isStart (byteAt s d) ≡ b → Worded s a σ f d (cond b (openerEnd s f d (identTo s d)) (fails d))
-      go true e =
-          let n : d < identTo s d = rw e (omega arith) in
-          word-ended (identTo s d) (lineEnd s (identTo s d)) (eqb (lineEnd s (identTo s d)) 0) refl refl n (let z : ¬ (identTo s d ≡ d) = λ z. omega arith in rw (ne-eqb (identTo s d) d z))
-      go false e = record {
-        walks = two ident ending ∙ rw (e, eq-eqb d d refl) (then-unexpected s d (walk s a σ (ending ∷ [])));
-        dash = λ z. clash (sym z);
-        past = λ z. clash (sym z);
-      }
 
 -- `<<` and perhaps `-` before it
 module _ (s : List ℕ) (left : ℕ) (lines : Bool) (p : ℕ) (q : pickAt s (under left lines anExpression) p ≡ some 8) where

@@ -26,12 +26,12 @@ use Rattle.grammar.specs.Table.{recordOf, span}
 use Rattle.reader.specs.Buffer.{putAt}
 use Rattle.reader.specs.Said.{stepOf, Asked, Heads, Said}
 use Rattle.reader.specs.Text.{flagOf, stepFrom, Ends, Piecing, Quoting, SaidString}
+use Rattle.grammar.specs.TextLaws.{close-by, run-yes, run-no, pick-string, plain-yes, quote-stands}
 use Rattle.reader.proofs.Lays.{lay-one}
 use Rattle.reader.proofs.Answers.{from-good, refused, head-no, kept-same}
-use Rattle.reader.proofs.Units.{isLine, run-escaped, run-length, run-end, run-stops}
-use Rattle.reader.proofs.Texts.{run-yes, run-no, close-by, leaf, leaf-string, total-leaf, records-leaf, written-leaf}
+use Rattle.grammar.specs.UnitLaws.{isLine, run-escaped, run-length, run-end, run-stops}
+use Rattle.reader.proofs.Texts.{leaf, leaf-string, total-leaf, records-leaf, written-leaf}
 use Rattle.reader.proofs.Pieces.{Ended, ended-by, refused-as, closed-as, delimited-not, quoted-line}
-use Rattle.reader.proofs.Quotes.{pick-string, plain-yes, quote-stands}
 
 -- what a string asks, where one is called for
 pub quoting : {s y : List ℕ} {i u k p : ℕ} (left : ℕ) (lines : Bool) → Asked s y i u k p → pickAt s (under left lines anExpression) p ≡ some 6 → Quoting s i u p

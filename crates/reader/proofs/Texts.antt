@@ -27,81 +27,11 @@ use Rattle.grammar.specs.Sane.{sane}
 use Rattle.grammar.specs.Table.{recordOf, span, own, recordsOf, recordsOfs, textsOf, textsOfs, total}
 use Rattle.reader.specs.Buffer.{write}
 use Rattle.reader.specs.Text.{flagOf, Pieced}
-use Rattle.reader.proofs.Units.{Stands, marks, run-escaped, run-length, run-end, run-some}
+use Rattle.grammar.specs.UnitLaws.{Stands, marks, run-escaped, run-length, run-end, run-some}
+use Rattle.grammar.specs.TextLaws.{more-unit, piece-yes, piece-no, pick-piece}
 use Rattle.reader.proofs.Lays.{lay-join, lay-one, write-join, total-append, texts-join, records-join, lengths-records}
 use Rattle.reader.proofs.Stages.{Stage}
 use Rattle.reader.proofs.Answers.{fits-all}
-
--- ---- atoms
-
-module _ (s : List ℕ) (a : Under) (σ : ℕ) where
-  pub walk-one : (x : Atom) (p : ℕ) → walk s a σ (x ∷ []) p ≡ atom s a σ x p
-  unfolding walk
-  walk-one x p = go (atom s a σ x p)
-    where
-      go : (o : Step) → then o (walk s a σ []) ≡ o
-      go (to q) = refl
-      go (no k q) = refl
-
-  module _ (p : ℕ) where
-    -- text goes on where a unit stands, or an interpolation
-    pub more-unit : Stands (unitAt s σ p) → walk s a σ (more ∷ []) p ≡ to p
-    unfolding atom
-    more-unit h = walk-one more p ∙ ap (goesAs p) (h .is)
-
-    pub more-dollar : unitAt s σ p ≡ not why.Interpolation → walk s a σ (more ∷ []) p ≡ to p
-    unfolding atom
-    more-dollar e = walk-one more p ∙ ap (goesAs p) e
-
-    pub more-not : (y : Why) → unitAt s σ p ≡ not y → ¬ (y ≡ why.Interpolation) → walk s a σ (more ∷ []) p ≡ no Unexpected p
-    unfolding atom
-    more-not y e n = walk-one more p ∙ ap (goesAs p) e ∙ go y n
-      where
-        go : (y : Why) → ¬ (y ≡ why.Interpolation) → goesAs p (not y) ≡ no Unexpected p
-        go why.Quote n = refl
-        go why.Interpolation n = absurd (n refl)
-        go why.Directive n = refl
-        go why.Escape n = refl
-        go why.Closing n = refl
-        go why.Foreign n = refl
-        go why.End n = refl
-
-    -- where none stands, the text ends, by why
-    pub close-by : (y : Why) → unitAt s σ p ≡ not y → walk s a σ (close ∷ []) p ≡ closeBy s σ p y
-    unfolding atom
-    close-by y e = walk-one close p ∙ rw e
-
-    -- a run, which is escaped or not
-    pub run-yes : (φ : Bool) → textAt (round s σ) s p .escaped ≡ φ → walk s a σ (run φ ∷ []) p ≡ to (p + textAt (round s σ) s p .width)
-    unfolding atom
-    run-yes true e = walk-one (run true) p ∙ rw e
-    run-yes false e = walk-one (run false) p ∙ rw e
-
-    pub run-no : textAt (round s σ) s p .escaped ≡ true → walk s a σ (run false ∷ []) p ≡ no Unexpected p
-    unfolding atom
-    run-no e = walk-one (run false) p ∙ rw e
-
--- a piece of the text that starts at t
-module _ (s : List ℕ) (left : ℕ) (lines : Bool) (t σ p : ℕ) where
-  pub piece-yes : (φ : Bool) (e : ℕ) → textAt (round s t) s p .escaped ≡ φ → p + textAt (round s t) s p .width ≡ e → ¬ (e ≡ p) → walk s (under left lines (aPiece t)) σ (piece φ ∷ []) p ≡ to e
-  unfolding atom
-  piece-yes true e f g n = walk-one s (under left lines (aPiece t)) σ (piece true) p ∙ rw (f, g, ne-eqb e p n)
-  piece-yes false e f g n = walk-one s (under left lines (aPiece t)) σ (piece false) p ∙ rw (f, g, ne-eqb e p n)
-
-  pub piece-no : textAt (round s t) s p .escaped ≡ true → walk s (under left lines (aPiece t)) σ (piece false ∷ []) p ≡ no Unexpected p
-  unfolding atom
-  piece-no e = walk-one s (under left lines (aPiece t)) σ (piece false) p ∙ rw e
-
--- ---- what the place of a piece calls for
-
-module _ (s : List ℕ) (left : ℕ) (lines : Bool) (t p : ℕ) where
-  pub pick-piece : Stands (unitAt s t p) → pickAt s (under left lines (aPiece t)) p ≡ some 9
-  unfolding pickAt
-  pick-piece h = rw (marks (round s t) (freshAt s p) (drop p s) .no h)
-
-  pub pick-dollar : unitAt s t p ≡ not why.Interpolation → pickAt s (under left lines (aPiece t)) p ≡ some 10
-  unfolding pickAt
-  pick-dollar e = rw (marks (round s t) (freshAt s p) (drop p s) .yes e)
 
 -- ---- a piece is read
 

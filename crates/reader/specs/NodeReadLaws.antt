@@ -1,18 +1,27 @@
--- What the reader laid over the lent buffers shows the texts of the reading.
-use Prim.Native.Nat.{ℕ, zero, suc, _+_, _-_, _*_, _/_, _≤_, _<_}
+-- What the reader laid over the lent buffers shows the texts of the reading, and where there are any.
+use Prim.Native.Nat.{ℕ, zero, suc, _+_, _*_, _/_, _≤_, _<_}
 use mathlib.Core.Path.{_≡_, refl, sym, ap, _∙_}
 use mathlib.Core.List.{List, [], _∷_, _++_}
-use mathlib.Core.Bool.{Bool, true, false, cond}
+use mathlib.Core.Bool.{cond}
 use native.Mathlib.Omega.{arith}
 use lib.ListN.{length, take, drop, set, getD, length-append, length-drop}
 use borrow.Author.Tests.{le-leb, lt-ltb}
 use Rattle.lexis.specs.String.{laid}
-use Rattle.engine.specs.Base.{Tree}
-use Rattle.grammar.specs.Table.{Record, total, flatten, numbers, textsOf, tableOf, wordsOf}
+use Rattle.reader.specs.declared.Answer.{Answer}
+use Rattle.engine.specs.Base.{ok, Tree}
+use Rattle.grammar.specs.Table.{Record, total, flatten, numbers, textsOf, tableOf}
+use Rattle.grammar.specs.Answer.{outcome}
+use Rattle.grammar.specs.Answer as grammar
+use Rattle.grammar.specs.Bounds.{flatten-long}
+use Rattle.grammar.specs.RowLaws.{length-records}
+use Rattle.grammar.specs.Published.{rowsIn}
+use Rattle.grammar.specs.Demands.{Derives}
+use Rattle.grammar.specs.DemandLaws.{derives-reading, fair-is, accepted-when, true-counts}
 use Rattle.reader.specs.Buffer.{putAt, putAs, lay, write}
-use Rattle.reader.specs.Node.{textOfNode}
+use Rattle.reader.specs.Node.{isText, textOfNode, nodeHasText}
 use Rattle.reader.specs.NodeTexts.{readTexts}
-use Rattle.reader.specs.NodeTextLaws.{assoc, drop-before, take-before, text-of-reading}
+use Rattle.reader.specs.NodeTextLaws.{assoc, take-before, text-of-reading, has-of-reading}
+use Rattle.reader.specs.Read.{Reads}
 
 -- ---- the text buffer
 
@@ -91,10 +100,51 @@ lay-behind b p (a0 ∷ a1 ∷ a2 ∷ a3 ∷ a4 ∷ a5 ∷ a6 ∷ q) i (r ∷ rs)
     ∙ assoc p (numbers (r ∷ [])) (numbers rs ++ drop (length rs * 7) q)
     ∙ sym (ap (λ n. p ++ (numbers (r ∷ rs) ++ drop n (a0 ∷ a1 ∷ a2 ∷ a3 ∷ a4 ∷ a5 ∷ a6 ∷ q))) more)
 
--- what an accepted reading leaves in the lent buffers shows, at each node, the text of the reading
-pub text-as-read : (s b x : List ℕ) (y : Tree ℕ) (i : ℕ) → length (tableOf s y) * 7 ≤ length b → total (textsOf s 0 y) ≤ length x → i < length (tableOf s y)
-    → textOfNode s (lay b 0 (tableOf s y)) (write x 0 (textsOf s 0 y)) i ≡ getD (readTexts s 0 y) i []
-text-as-read s b x y i room space h =
-    ap (λ l. textOfNode s l (write x 0 (textsOf s 0 y)) i) (lay-behind b [] b 0 (tableOf s y) refl refl room)
-    ∙ ap (λ l. textOfNode s (numbers (tableOf s y) ++ drop (length (tableOf s y) * 7) b) l i) (written x (textsOf s 0 y) space)
-    ∙ text-of-reading s (drop (length (tableOf s y) * 7) b) (drop (total (textsOf s 0 y)) x) y i h
+-- what an accepted reading leaves in the lent buffers
+module _ (s b x : List ℕ) (y : Tree ℕ) (d : Derives s y) (i : ℕ) (room : length (tableOf s y) * 7 ≤ length b) (space : total (textsOf s 0 y) ≤ length x) (h : i < length (tableOf s y)) where
+  -- shows, at each node, the text of the reading
+  pub text-as-read : textOfNode s (lay b 0 (tableOf s y)) (write x 0 (textsOf s 0 y)) i ≡ getD (readTexts s 0 y) i []
+  text-as-read =
+      ap (λ l. textOfNode s l (write x 0 (textsOf s 0 y)) i) (lay-behind b [] b 0 (tableOf s y) refl refl room)
+      ∙ ap (λ l. textOfNode s (numbers (tableOf s y) ++ drop (length (tableOf s y) * 7) b) l i) (written x (textsOf s 0 y) space)
+      ∙ text-of-reading s (drop (length (tableOf s y) * 7) b) (drop (total (textsOf s 0 y)) x) y d i h
+
+  -- and that there is one exactly where its kind is 6 or 9
+  pub has-as-read : nodeHasText s (lay b 0 (tableOf s y)) (write x 0 (textsOf s 0 y)) i ≡ isText ((rowsIn (tableOf s y) i) .kind)
+  has-as-read =
+      ap (λ l. nodeHasText s l (write x 0 (textsOf s 0 y)) i) (lay-behind b [] b 0 (tableOf s y) refl refl room)
+      ∙ ap (λ l. nodeHasText s (numbers (tableOf s y) ++ drop (length (tableOf s y) * 7) b) l i) (written x (textsOf s 0 y) space)
+      ∙ has-of-reading s (drop (length (tableOf s y) * 7) b) (drop (total (textsOf s 0 y)) x) y d i h
+
+-- ---- so, of what `read` promises
+
+-- what a table b and a text x of n nodes show of a source
+pub record Shows (s b x : List ℕ) (n : ℕ) : Type 0 where
+  pub tree : Tree ℕ
+  pub derives : Derives s tree
+  pub nodes : n ≡ length (tableOf s tree)
+  -- the text of each node is that of the reading
+  pub text : (i : ℕ) → i < n → textOfNode s b x i ≡ getD (readTexts s 0 tree) i []
+  -- a node has text exactly where its kind is 6 or 9
+  pub has : (i : ℕ) → i < n → nodeHasText s b x i ≡ isText ((rowsIn (tableOf s tree) i) .kind)
+
+pub read-shows : (s b b′ x x′ : List ℕ) (r : Answer) → Reads s b b′ x x′ r → r .kind ≡ 0 → Shows s b′ x′ (r .nodes)
+read-shows s b b′ x x′ r c k =
+    let p = accepted-when s (length b / 7) (length x) (sym (ap (λ (a : grammar.Answer). a .kind) (c .is)) ∙ k) in
+    let t = p .tree in
+    let o : outcome s ≡ ok t = fair-is s (p .fair) ∙ derives-reading s t (p .derives) in
+    let (e, f) = c .laid k t o in
+    let n : r .nodes ≡ length (tableOf s t) = ap (λ (a : grammar.Answer). a .nodes) (c .is ∙ true-counts s (length b / 7) (length x) p) ∙ sym (length-records s 0 0 t) in
+    let room : length (tableOf s t) * 7 ≤ length b = omega (arith, p .few-nodes, length-records s 0 0 t) in
+    let space : total (textsOf s 0 t) ≤ length x = omega (arith, p .few-bytes, flatten-long (textsOf s 0 t)) in
+    record {
+      tree = t;
+      derives = p .derives;
+      nodes = n;
+      text = λ i h.
+          let g : i < length (tableOf s t) = omega arith in
+          ap (λ l. textOfNode s l x′ i) e ∙ ap (λ l. textOfNode s (lay b 0 (tableOf s t)) l i) f ∙ text-as-read s b x t (p .derives) i room space g;
+      has = λ i h.
+          let g : i < length (tableOf s t) = omega arith in
+          ap (λ l. nodeHasText s l x′ i) e ∙ ap (λ l. nodeHasText s (lay b 0 (tableOf s t)) l i) f ∙ has-as-read s b x t (p .derives) i room space g;
+    }

@@ -53,6 +53,10 @@ some-as m f (b ∷ s) h = go (unitIn m f (b ∷ s)) h
     go (is w bs e) g = record { width = w; bytes = bs; escaped = e; is = refl }
     go (not y) g = absurd (g refl)
 
+-- where a run is not empty a unit stands
+pub text-some : (m : Mode) (s : List ℕ) (p : ℕ) → ¬ (textAt m s p .width ≡ 0) → Stands (unitIn m (freshAt s p) (drop p s))
+text-some m s p h = some-as m (freshAt s p) (drop p s) h
+
 -- ---- where a run ends no unit stands
 
 -- whether a line starts at a place of a list, where f says it of the list's start

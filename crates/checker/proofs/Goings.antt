@@ -1,0 +1,264 @@
+-- Moves of the checker's own: atom by atom.
+use Prim.Native.Nat.{ℕ, zero, suc, _+_, _-_, _≤_, _<_}
+use mathlib.Core.Path.{_≡_, refl, sym, ap, _∙_}
+use mathlib.Core.List.{List, [], _∷_}
+use mathlib.Core.Bool.{Bool, true, false, cond, not, _&&_, _||_}
+use mathlib.Core.Option.{none, some}
+use native.Mathlib.Omega.{arith}
+use lib.ListN.{length}
+use lib.Dec.{eqb}
+use borrow.Author.Tests.{ne-eqb, lt-ltb, le-ltb}
+use Rattle.lexis.specs.declared.trivia.Stop.{Stop}
+use Rattle.lexis.specs.Bytes.{byteAt, isForeign, stands, Ran}
+use Rattle.lexis.specs.Trivia.{Stopped}
+use Rattle.lexis.specs.Operator.{isMark, markTo, equalsTo, bangTo}
+use Rattle.lexis.specs.Keys.{among}
+use Rattle.lexis.specs.RunLaws.{stands-one}
+use Rattle.grammar.specs.declared.moves.Went.{Went}
+use Rattle.grammar.specs.Kinds.{Foreign, Unexpected}
+use Rattle.grammar.specs.Moves.{Under, Step, to, no, then, place, when, unexpected, Atom, gap, mark, opens, unless, stop, ended, fresh, any, line, keysOf, behindKey, skip, marks, level, opening, stopStep, stopping, atom, Move, walk}
+use Rattle.grammar.specs.Hcl.{under}
+use Rattle.grammar.specs.Code.{moveAt}
+use Rattle.grammar.specs.Said.{went, Moved, Made, Walked}
+use Rattle.checker.specs.Program.{ownMove, moveIn}
+use Rattle.checker.specs.Leaf.{GoneAt}
+use Rattle.checker.specs.LeafMore.{Past, Comes, Goes}
+
+-- ---- steps
+
+unexpected-none : (s : List ℕ) (p : ℕ) → place (unexpected s p) ≡ none
+unexpected-none s p = go (isForeign (byteAt s p))
+  where
+    go : (b : Bool) → place (when b (no Foreign p) (no Unexpected p)) ≡ none
+    go true = refl
+    go false = refl
+
+then-to : (x : Step) → then x to ≡ x
+then-to (to q) = refl
+then-to (no k q) = refl
+
+then-none : (x : Step) (f : ℕ → Step) → place x ≡ none → place (then x f) ≡ none
+then-none (to q) f e = absurd (let z : _≡_ {A = ℕ} 0 1 = cc in omega arith)
+then-none (no k q) f e = refl
+
+then-then : (x : Step) (f g : ℕ → Step) → then x (λ q. then (f q) g) ≡ then (then x f) g
+then-then (to q) f g = refl
+then-then (no k q) f g = refl
+
+-- a refusal as the code has it
+pub refused-kind : {k p : ℕ} {r : Went} → r ≡ went (suc k) p → ¬ (r .kind ≡ 0)
+refused-kind {k} {p} {r} e f = omega (arith, ap (λ (w : Went). w .kind) e)
+
+-- ---- a token
+
+pub past-none : {p e : ℕ} {r : Went} → e ≡ p → r ≡ went 4 p → Past p e r
+past-none h f = record { good = λ z. absurd (refused-kind f z); bad = λ z. h }
+
+pub past-some : {p e : ℕ} {r : Went} → ¬ (e ≡ p) → r ≡ went 0 e → Past p e r
+past-some h f = record { good = λ z. (h, ap (λ (w : Went). w .at) f); bad = λ z. absurd (z (ap (λ (w : Went). w .kind) f)) }
+
+token-comes : (s : List ℕ) (b : Bool) (n : ℕ) {p e : ℕ} {r : Went} → 1 ≤ n → e ≡ cond b (p + n) p → Past p e r → Comes (when b (to (p + n)) (unexpected s p)) r
+token-comes s true n l h f = record { good = λ z. ap to (sym h ∙ sym (f .good z .1)); bad = λ z. absurd (omega (arith, f .bad z)) }
+token-comes s false n {p} l h f = record { good = λ z. absurd (f .good z .0 h); bad = λ z. unexpected-none s p }
+
+mark-comes : {s : List ℕ} (w : List ℕ) (longer : List (List ℕ)) {p e : ℕ} {r : Went} → 1 ≤ length w → Ran s p (markTo w longer s p) e → Past p e r → Comes (marks s w longer p) r
+mark-comes {s} w longer {p} l h f = token-comes s (isMark w longer s p) (length w) l (h .is) f
+
+mark-swap : (a b c : Bool) → (a && not (b || (c || false))) ≡ (a && not (c || (b || false)))
+mark-swap a true true = refl
+mark-swap a true false = refl
+mark-swap a false true = refl
+mark-swap a false false = refl
+
+equals-comes : {s : List ℕ} {p e : ℕ} {r : Went} → Ran s p (equalsTo s p) e → Past p e r → Comes (marks s (61 ∷ []) ((61 ∷ 61 ∷ []) ∷ (61 ∷ 62 ∷ []) ∷ []) p) r
+equals-comes {s} {p} h f =
+    rw (mark-swap (stands (61 ∷ []) s p) (stands (61 ∷ 61 ∷ []) s p) (stands (61 ∷ 62 ∷ []) s p))
+    (token-comes s (isMark (61 ∷ []) ((61 ∷ 62 ∷ []) ∷ (61 ∷ 61 ∷ []) ∷ []) s p) 1 (omega arith) (h .is) f)
+
+-- a level
+
+level-none : (s w : List ℕ) (longer : List (List ℕ)) (p : ℕ) → place (opening s 0 w longer p) ≡ none
+level-none s w longer p = go (isMark w longer s p)
+  where
+    go : (b : Bool) → place (when b (level 0 p (to (p + length w))) (unexpected s p)) ≡ none
+    go true = refl
+    go false = unexpected-none s p
+
+level-some : (s : List ℕ) (left : ℕ) (w : List ℕ) (longer : List (List ℕ)) (p : ℕ) → ¬ (left ≡ 0) → opening s left w longer p ≡ marks s w longer p
+level-some s zero w longer p n = absurd (n refl)
+level-some s (suc d) w longer p n = refl
+
+pub bang-deep : (s : List ℕ) {left p : ℕ} {r : Went} → left ≡ 0 → r ≡ went 8 p → Comes (opening s left (33 ∷ []) ((33 ∷ 61 ∷ []) ∷ []) p) r
+bang-deep s {left} {p} h f = record { good = λ z. absurd (refused-kind f z); bad = λ z. rw h (level-none s (33 ∷ []) ((33 ∷ 61 ∷ []) ∷ []) p) }
+
+pub bang-past : {s : List ℕ} {left p e : ℕ} {r : Went} → ¬ (left ≡ 0) → Ran s p (bangTo s p) e → Past p e r → Comes (opening s left (33 ∷ []) ((33 ∷ 61 ∷ []) ∷ []) p) r
+bang-past {s} {left} {p} n h f = rw (level-some s left (33 ∷ []) ((33 ∷ 61 ∷ []) ∷ []) p n) (mark-comes (33 ∷ []) ((33 ∷ 61 ∷ []) ∷ []) (omega arith) h f)
+
+-- ---- what ends an item, and any trivia
+
+stop-none : (s : List ℕ) (p n : ℕ) (x : Stop) → ¬ (n ≡ 1) → place (stopStep s p n x) ≡ none
+stop-none s p zero x h = unexpected-none s p
+stop-none s p (suc zero) x h = absurd (h refl)
+stop-none s p (suc (suc n)) x h = refl
+
+module _ {s : List ℕ} {p : ℕ} {x : Stop} (st : Stopped s p x) where
+  stopped : stopping s p ≡ stopStep s p (x .how) x
+  stopped = rw (← st .is)
+
+  pub ended-not : {r : Went} → ¬ (x .how ≡ 1) → r ≡ went 4 (x .at) → Comes (then (stopping s p) (skip s true)) r
+  ended-not n f = record { good = λ z. absurd (refused-kind f z); bad = λ z. then-none (stopping s p) (skip s true) (rw stopped (stop-none s p (x .how) x n)) }
+
+  pub ended-past : {r : Went} → x .how ≡ 1 → Moved s (x .at) true r → Comes (then (stopping s p) (skip s true)) r
+  ended-past {r} n m =
+      let e : stopping s p ≡ to (x .at) = stopped ∙ rw n in
+      record { good = λ z. rw e (m .good z); bad = λ z. rw (e, m .bad z) }
+
+-- ---- moves, atom by atom
+
+module _ {s : List ℕ} where
+  -- an atom that is made, and one that is not
+  on : {m : Move} {p : ℕ} {r : Went} (a : Atom) (q : ℕ) → ((b : Under) (σ : ℕ) → keysOf (b .want) ≡ [] → atom s b σ a p ≡ to q) → Goes s m q r → Goes s (a ∷ m) p r
+  unfolding walk
+  on a q f g = record { good = λ z b σ k. rw (f b σ k) (g .good z b σ k); bad = λ z b σ k. rw (f b σ k) (g .bad z b σ k) }
+
+  stuck : {p : ℕ} {r : Went} (m : Move) (a : Atom) → ((b : Under) (σ : ℕ) → keysOf (b .want) ≡ [] → place (atom s b σ a p) ≡ none) → ¬ (r .kind ≡ 0) → Goes s (a ∷ m) p r
+  unfolding walk
+  stuck {p} m a f n = record { good = λ z. absurd (n z); bad = λ z b σ k. then-none (atom s b σ a p) (walk s b σ m) (f b σ k) }
+
+  last : {p : ℕ} {r : Went} {x : Step} (a : Atom) → ((b : Under) (σ : ℕ) → atom s b σ a p ≡ x) → Comes x r → Goes s (a ∷ []) p r
+  unfolding walk
+  last {x = x} a f g = record { good = λ z b σ k. rw (f b σ, g .good z); bad = λ z b σ k. rw (f b σ) (then-none x to (g .bad z)) }
+
+  done : {p q : ℕ} {r : Went} → r ≡ went 0 q → q ≡ p → Goes s [] p r
+  unfolding walk
+  done {p} {q} {r} e f = record { good = λ z b σ k. ap some (sym (ap (λ (w : Went). w .at) e ∙ f)); bad = λ z. absurd (z (ap (λ (w : Went). w .kind) e)) }
+
+module _ (s : List ℕ) where
+  new : (b : Under) (σ p : ℕ) → keysOf (b .want) ≡ [] → atom s b σ fresh p ≡ to p
+  unfolding atom among
+  new b σ p k = rw k (go (eqb (behindKey s σ) p))
+    where
+      go : (x : Bool) → when (x && false) (no 7 σ) (to p) ≡ to p
+      go true = refl
+      go false = refl
+
+  brace : (q : ℕ) {b : Bool} → stands (125 ∷ []) s q ≡ b → eqb (byteAt s q) 125 ≡ b
+  brace q h = sym (stands-one 125 s q refl) ∙ h
+
+module _ {s : List ℕ} {p : ℕ} {g : Went} (sp : Moved s p false g) where
+  gap-no : (m : Move) → ¬ (g .kind ≡ 0) → Goes s (gap line ∷ m) p g
+  unfolding atom
+  gap-no m n = stuck m (gap line) (λ b σ k. rw (sp .bad n)) n
+
+  gap-on : {m : Move} {r : Went} → g .kind ≡ 0 → Goes s m (g .at) r → Goes s (gap line ∷ m) p r
+  unfolding atom
+  gap-on z h = on (gap line) (g .at) (λ b σ k. sp .good z) h
+
+  -- `=` and `:`
+  pub equals-no : ¬ (g .kind ≡ 0) → Goes s (ownMove 2) p g
+  equals-no n = gap-no _ n
+
+  pub colon-no : ¬ (g .kind ≡ 0) → Goes s (ownMove 3) p g
+  colon-no n = gap-no _ n
+
+  pub more-no : ¬ (g .kind ≡ 0) → Goes s (ownMove 4) p g
+  more-no n = gap-no _ n
+
+  pub closing-no : ¬ (g .kind ≡ 0) → Goes s (ownMove 5) p g
+  closing-no n = gap-no _ n
+
+  module _ (z : g .kind ≡ 0) where
+    pub equals-past : {e : ℕ} {r : Went} → Ran s (g .at) (equalsTo s (g .at)) e → Past (g .at) e r → Goes s (ownMove 2) p r
+    unfolding atom
+    equals-past h f =
+        gap-on z (on fresh (g .at) (λ b σ k. new s b σ (g .at) k) (last (mark (61 ∷ []) ((61 ∷ 61 ∷ []) ∷ (61 ∷ 62 ∷ []) ∷ [])) (λ b σ. refl) (equals-comes h f)))
+
+    pub colon-past : {e : ℕ} {r : Went} → Ran s (g .at) (markTo (58 ∷ []) [] s (g .at)) e → Past (g .at) e r → Goes s (ownMove 3) p r
+    unfolding atom
+    colon-past h f = gap-on z (on fresh (g .at) (λ b σ k. new s b σ (g .at) k) (last (mark (58 ∷ []) []) (λ b σ. refl) (mark-comes (58 ∷ []) [] (omega arith) h f)))
+
+    -- the `}` behind the last item
+    pub closing-here : {r : Went} → stands (125 ∷ []) s (g .at) ≡ true → r ≡ went 0 (g .at + 1) → Goes s (ownMove 5) p r
+    unfolding atom
+    closing-here h f =
+        gap-on z (on ended (g .at) (λ b σ k. rw (brace s (g .at) h)) (on (mark (125 ∷ []) []) (g .at + 1) (λ b σ k. rw h) (done f refl)))
+
+    module _ {w : Went} (c : Comes (then (stopping s (g .at)) (skip s true)) w) where
+      pub closing-stuck : stands (125 ∷ []) s (g .at) ≡ false → ¬ (w .kind ≡ 0) → Goes s (ownMove 5) p w
+      unfolding atom
+      closing-stuck h n = gap-on z (stuck (mark (125 ∷ []) [] ∷ []) ended (λ b σ k. rw (brace s (g .at) h) (c .bad n)) n)
+
+      pub closing-past : {e : ℕ} {r : Went} → stands (125 ∷ []) s (g .at) ≡ false → w .kind ≡ 0 → Ran s (w .at) (markTo (125 ∷ []) [] s (w .at)) e → Past (w .at) e r → Goes s (ownMove 5) p r
+      unfolding atom
+      closing-past h y i f =
+          gap-on z (on ended (w .at) (λ b σ k. rw (brace s (g .at) h) (c .good y)) (last (mark (125 ∷ []) []) (λ b σ. refl) (mark-comes (125 ∷ []) [] (omega arith) i f)))
+
+      -- the next item
+      stop-no : ¬ (w .kind ≡ 0) → Goes s (stop ∷ gap any ∷ unless 125 ∷ []) (g .at) w
+      unfolding atom walk
+      stop-no n = record {
+        good = λ y. absurd (n y);
+        bad = λ y b σ k. ap place (then-then (stopping s (g .at)) (skip s true) (walk s b σ (unless 125 ∷ []))) ∙ then-none (then (stopping s (g .at)) (skip s true)) (walk s b σ (unless 125 ∷ [])) (c .bad n);
+      }
+
+      pub more-stuck : ¬ (w .kind ≡ 0) → Goes s (ownMove 4) p w
+      more-stuck n = gap-on z (stop-no n)
+
+      stop-on : {m : Move} {r : Went} → w .kind ≡ 0 → Goes s m (w .at) r → Goes s (stop ∷ gap any ∷ m) (g .at) r
+      unfolding atom walk
+      stop-on {m} y h = record {
+        good = λ x b σ k. ap place (then-then (stopping s (g .at)) (skip s true) (walk s b σ m)) ∙ rw (c .good y) (h .good x b σ k);
+        bad = λ x b σ k. ap place (then-then (stopping s (g .at)) (skip s true) (walk s b σ m)) ∙ rw (c .good y) (h .bad x b σ k);
+      }
+
+      pub more-brace : {r : Went} → w .kind ≡ 0 → stands (125 ∷ []) s (w .at) ≡ true → r ≡ went 4 (w .at) → Goes s (ownMove 4) p r
+      unfolding atom
+      more-brace y h f = gap-on z (stop-on y (stuck [] (unless 125) (λ b σ k. rw (brace s (w .at) h) (unexpected-none s (w .at))) (refused-kind f)))
+
+      pub more-here : w .kind ≡ 0 → stands (125 ∷ []) s (w .at) ≡ false → Goes s (ownMove 4) p w
+      unfolding atom
+      more-here y h = gap-on z (stop-on y (on (unless 125) (w .at) (λ b σ k. rw (brace s (w .at) h)) (done (ap (λ (x : ℕ). went x (w .at)) y) refl)))
+
+-- ---- by its number
+
+module _ {s : List ℕ} {left : ℕ} {lines : Bool} {a p : ℕ} {r : Went} where
+  pub gone-low : a < 200 → Walked s left lines a p r → GoneAt s left lines a p r
+  gone-low h w =
+      let z : moveIn a ≡ moveAt a = rw (lt-ltb a 200 h) in
+      record { good = λ y σ v k. rw z (ap place (w .good y σ v)); bad = λ y σ v k. rw z (ap place (w .bad y σ v)) }
+
+  at : (n : ℕ) → a ≡ n → GoneAt s left lines n p r → GoneAt s left lines a p r
+  at n e h = rw e h
+
+  pub gone-minus : a ≡ 200 → Made s left lines (opens (45 ∷ []) []) p r → GoneAt s left lines a p r
+  unfolding walk
+  gone-minus e w = at 200 e (record { good = λ y σ v k. rw (w .good y σ v); bad = λ y σ v k. rw (w .bad y σ v) })
+
+  pub gone-bang : a ≡ 201 → Comes (opening s left (33 ∷ []) ((33 ∷ 61 ∷ []) ∷ []) p) r → GoneAt s left lines a p r
+  unfolding walk atom
+  gone-bang e w = at 201 e (record { good = λ y σ v k. rw (w .good y); bad = λ y σ v k. then-none (opening s left (33 ∷ []) ((33 ∷ 61 ∷ []) ∷ []) p) to (w .bad y) })
+
+  goes-at : {m : Move} → moveIn a ≡ m → Goes s m p r → GoneAt s left lines a p r
+  goes-at e g = record { good = λ y σ v k. rw e (g .good y (under left lines v) σ k); bad = λ y σ v k. rw e (g .bad y (under left lines v) σ k) }
+
+  pub gone-equals : a ≡ 202 → Goes s (ownMove 2) p r → GoneAt s left lines a p r
+  gone-equals e g = goes-at (ap moveIn e) g
+
+  pub gone-colon : a ≡ 203 → Goes s (ownMove 3) p r → GoneAt s left lines a p r
+  gone-colon e g = goes-at (ap moveIn e) g
+
+  pub gone-more : a ≡ 204 → Goes s (ownMove 4) p r → GoneAt s left lines a p r
+  gone-more e g = goes-at (ap moveIn e) g
+
+  pub gone-last : 200 ≤ a → (a ≡ 200 → ⊥) → (a ≡ 201 → ⊥) → (a ≡ 202 → ⊥) → (a ≡ 203 → ⊥) → (a ≡ 204 → ⊥) → Goes s (ownMove 5) p r → GoneAt s left lines a p r
+  gone-last h n0 n1 n2 n3 n4 g =
+      goes-at
+      (rw (
+        le-ltb a 200 h,
+        ne-eqb (a - 200) 0 (λ e. n0 (omega arith)),
+        ne-eqb (a - 200) 1 (λ e. n1 (omega arith)),
+        ne-eqb (a - 200) 2 (λ e. n2 (omega arith)),
+        ne-eqb (a - 200) 3 (λ e. n3 (omega arith)),
+        ne-eqb (a - 200) 4 (λ e. n4 (omega arith)),
+      ))
+      g

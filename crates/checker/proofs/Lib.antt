@@ -1,0 +1,25 @@
+mod Families
+mod Overs
+mod Lays
+mod Passes
+mod Strands
+mod TextTurns
+pub mod Tables
+pub mod Programs
+pub mod Callings
+pub mod Columns
+pub mod Goings
+pub mod Units
+pub mod Runs
+pub mod Spellings
+pub mod Tellings
+pub mod Strings
+mod Heads
+mod TextHeads
+mod Growns
+mod Nodes
+mod Texteds
+mod Tabled
+mod Walks
+mod Checks
+mod WalkEnds

@@ -1,0 +1,113 @@
+// The checker: a table and a text from anyone, tested against a source. It reads nothing anew and builds no tree.
+use crate::node::node;
+use crate::program::fits;
+use crate::rows::wide;
+use crate::text::columns;
+use lexis::utf8::first_bad;
+ghost use Rattle.checker.specs.Check.{Rooted, Walking, Checks};
+
+mod family;
+mod kinds;
+mod lay;
+mod moves;
+mod node;
+mod pass;
+mod program;
+mod row;
+mod rows;
+mod text;
+mod texts;
+
+// What is wanted where an expression stands.
+const EXPRESSION: u8 = 0;
+
+// The depth of the root: 64 levels, twice, and no line end.
+const TOP: u8 = 128;
+
+// Tables of at most so many rows have a small room.
+const FEW: usize = 512;
+
+// Whether the last of n rows can be the root: over all rows, an expression, from the first byte to the last.
+fn rooted(source: &[u8], table: &[u16], n: usize) -> bool
+    ensures { λ r. ⌜ Rooted (now (source .entry)) (now (table .entry)) n r ⌝ }
+{
+    if n == 0 {
+        return false;
+    }
+    if table.len() / 7 < n {
+        return false;
+    }
+    let at = 7 * (n - 1);
+    if wide(table[at + 4]) != n {
+        return false;
+    }
+    if table[at + 2] != 0 {
+        return false;
+    }
+    if wide(table[at + 3]) != source.len() {
+        return false;
+    }
+    fits(EXPRESSION, table[at])
+}
+
+// The rule at each of n rows, from the last one backwards. `marks` links the children of a row, `depths` holds what the rows to come are under, and
+// `keys` the keys of an object.
+fn walk(
+    source: &[u8],
+    table: &[u16],
+    text: &[u8],
+    n: usize,
+    marks: &mut [u16],
+    depths: &mut [u8],
+    keys: &mut [u16],
+) -> bool
+    requires { ⌜ Walking (now source) (now table) n (now marks) (now depths) (now keys) ⌝ }
+    ensures { λ r. ⌜ Checks (now (source .entry)) (now (table .entry)) (now (text .entry)) r ⌝ }
+{
+    depths[n - 1] = TOP;
+    let mut i = n;
+    let mut u = text.len();
+    loop {
+        if i == 0 {
+            return u == 0;
+        }
+        let x = columns(table, i - 1, u);
+        if !x.good {
+            return false;
+        }
+        if !node(source, text, table, i - 1, marks, depths, keys) {
+            return false;
+        }
+        u = x.before;
+        i = i - 1;
+    }
+}
+
+// Whether a table and a text are the reading of a source.
+pub fn check(source: &[u8], table: &[u16], text: &[u8]) -> bool
+    ensures { λ r. ⌜ Checks (now (source .entry)) (now (table .entry)) (now (text .entry)) r ⌝ }
+{
+    if source.len() > 65535 {
+        return false;
+    }
+    if table.len() % 7 != 0 {
+        return false;
+    }
+    let n = table.len() / 7;
+    if !rooted(source, table, n) {
+        return false;
+    }
+    if first_bad(source) != source.len() {
+        return false;
+    }
+    if n <= FEW {
+        let mut marks = [0u16; 512];
+        let mut depths = [0u8; 512];
+        let mut keys = [0u16; 512];
+        return walk(source, table, text, n, &mut marks, &mut depths, &mut keys);
+    }
+    let mut marks = [0u16; 65535];
+    let mut depths = [0u8; 65535];
+    let mut keys = [0u16; 65535];
+    walk(source, table, text, n, &mut marks, &mut depths, &mut keys)
+}

@@ -1,0 +1,212 @@
+// The layouts as a program: grammar's, and behind it the instructions of the kinds that it lacks.
+use grammar::kinds::Kind;
+use grammar::program;
+pub use grammar::program::Child;
+pub use grammar::program::Instr;
+ghost use mathlib.Core.Path.{_≡_};
+ghost use Prim.Native.Nat.{_-_};
+ghost use Rattle.engine.specs.Base.{has};
+ghost use Rattle.checker.specs.Program.{beginIn};
+ghost use Rattle.checker.specs.Leaf.{InstrAt, kindsBy, ChildAt};
+ghost use Rattle.checker.specs.LeafMore.{wordIn, Shared, wantedAs};
+
+// What is wanted, besides what grammar's program asks for.
+pub struct Want(pub u8);
+
+impl Want {
+    pub const ITEM: u8 = 4;
+
+    pub const KEY: u8 = 5;
+}
+
+// Operation, argument, class and where to go on, a byte each, the first lowest.
+const OWN: [u32; 25] = [
+    51202,
+    1794,
+    393219,
+    1,
+    51458,
+    1794,
+    393219,
+    1,
+    131075,
+    4043360772,
+    1794,
+    196611,
+    1,
+    51970,
+    1794,
+    196611,
+    257,
+    17410,
+    4160768260,
+    1,
+    4610,
+    458755,
+    4211592197,
+    52482,
+    1,
+];
+
+// By kind, what it is wanted as; 6 for the kinds that are children of no layout of the program.
+const WANTS: [u8; 43] = [
+    6,
+    0,
+    0,
+    0,
+    0,
+    0,
+    0,
+    0,
+    0,
+    6,
+    6,
+    0,
+    0,
+    4,
+    5,
+    0,
+    0,
+    1,
+    0,
+    0,
+    3,
+    0,
+    0,
+    0,
+    0,
+    0,
+    0,
+    0,
+    0,
+    0,
+    0,
+    0,
+    0,
+    0,
+    0,
+    0,
+    0,
+    0,
+    2,
+    2,
+    2,
+    2,
+    2,
+];
+
+// Where the program of a kind starts; 0 for the kinds that have none.
+pub fn begin(kind: u16) -> usize
+    ensures { λ r. ⌜ r ≡ beginIn kind ⌝ }
+{
+    match kind {
+        12 => 245,
+        13 => 236,
+        14 => 12,
+        22 => 228,
+        23 => 232,
+        _ => program::begin(kind),
+    }
+}
+
+// The k-th instruction of its own, as one number; 0 past the last.
+fn word(k: usize) -> u32
+    ensures { λ r. ⌜ r ≡ wordIn k ⌝ }
+{
+    if k < 25 { OWN[k] } else { 0 }
+}
+
+// The instruction at pc; all 0 past the program's end.
+pub fn instr(pc: usize) -> Instr
+    ensures { λ r. ⌜ InstrAt pc r ⌝ }
+{
+    if pc < 228 {
+        return program::instr(pc);
+    }
+    let x = word(pc - 228);
+    Instr {
+        op: (x % 256) as u8,
+        arg: (x / 256 % 256) as usize,
+        class: (x / 65536 % 256) as u8,
+        next: (x / 16777216) as usize,
+    }
+}
+
+// One less; 0 for 0.
+fn less(n: usize) -> usize
+    ensures { λ r. ⌜ r ≡ n - 1 ⌝ }
+{
+    if n == 0 { 0 } else { n - 1 }
+}
+
+// What a child of a class of grammar's program is under; every want from a condition's on is a condition's.
+fn shared(class: u8, left: usize, lines: bool) -> Child
+    ensures { λ r. ⌜ Shared class left lines r ⌝ }
+{
+    let c = program::child(class, left, lines);
+    if c.want < Child::CONDITION {
+        return c;
+    }
+    Child {
+        left: c.left,
+        lines: c.lines,
+        bound: c.bound,
+        want: Child::CONDITION,
+    }
+}
+
+// What a child of a class is under, in a node with so many levels left, where a line end may stand or not.
+pub fn child(class: u8, left: usize, lines: bool) -> Child
+    ensures { λ r. ⌜ ChildAt class left lines r ⌝ }
+{
+    match class {
+        2 => Child {
+            left: left,
+            lines: false,
+            bound: 0,
+            want: Want::KEY,
+        },
+        3 => Child {
+            left: left,
+            lines: lines,
+            bound: 0,
+            want: Child::EXPRESSION,
+        },
+        6 => Child {
+            left: less(left),
+            lines: lines,
+            bound: 7,
+            want: Child::EXPRESSION,
+        },
+        7 => Child {
+            left: less(left),
+            lines: false,
+            bound: 8,
+            want: Want::ITEM,
+        },
+        _ => shared(class, left, lines),
+    }
+}
+
+// What a kind is wanted as; 6 for what is no child of the program's layouts.
+fn wanted(kind: u16) -> u8
+    ensures { λ r. ⌜ r ≡ wantedAs kind ⌝ }
+{
+    let k = kind as usize;
+    if k < 43 { WANTS[k] } else { 6 }
+}
+
+// Whether a kind may stand where something is wanted.
+pub fn fits(want: u8, kind: u16) -> bool
+    ensures { λ r. ⌜ r ≡ has (kindsBy want) kind ⌝ }
+{
+    let w = wanted(kind);
+    if want < Want::KEY {
+        return w == want;
+    }
+    // a key that is a lone identifier is no variable
+    if kind == Kind::VARIABLE {
+        return false;
+    }
+    w == Want::KEY || w == Child::EXPRESSION
+}
