@@ -47,6 +47,8 @@ int main(void) {
     want(show("\"a$${b}\"", &place, &count) == VEALTIKUM_ACCEPTED && count == 1, "a string is read");
     const uint8_t *t = text_of((const uint8_t *)"\"a$${b}\"", 8, 0, &length);
     want(t != NULL && length == 5 && memcmp(t, "a${b}", 5) == 0, "its text has no escapes");
+    want(vealtikum_check((const uint8_t *)"\"a$${b}\"", 8, nodes, VEALTIKUM_WIDTH, text, 5), "it is this source's reading");
+    want(!vealtikum_check((const uint8_t *)"\"a$${c}\"", 8, nodes, VEALTIKUM_WIDTH, text, 5), "and not another's");
     want(text_of((const uint8_t *)"", 0, 64, &length) == NULL && length == 0, "a bad index has no text");
     return wrong;
 }

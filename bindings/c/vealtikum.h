@@ -1,4 +1,4 @@
-/* Vealtikum: reads HCL expressions. What the functions promise is proved of the code behind them.
+/* Vealtikum: reads HCL expressions, and checks readings. What the functions promise is proved of the code behind them.
  *
  * What the caller owes:
  * - Every pointer points to as many elements as the length behind it says. None is null, not even where the length is 0.
@@ -12,6 +12,7 @@
 #ifndef VEALTIKUM_H
 #define VEALTIKUM_H
 
+#include <stdbool.h>
 #include <stddef.h>
 #include <stdint.h>
 
@@ -51,6 +52,12 @@ enum {
  * what is needed at count and used, the others 0. */
 uint8_t vealtikum_read(const uint8_t *source, size_t source_len, uint16_t *nodes, size_t nodes_len, uint8_t *text,
                        size_t text_len, size_t *place, size_t *count, size_t *used);
+
+/* Whether a table and a text from anyone are the reading of a source: true exactly where vealtikum_read, lent enough
+ * room, accepts the source and writes these very numbers and bytes. nodes_len counts numbers, and is to be that of the
+ * table: VEALTIKUM_WIDTH for each record. The source is not read again. Any lengths and any numbers may be given. */
+bool vealtikum_check(const uint8_t *source, size_t source_len, const uint16_t *nodes, size_t nodes_len,
+                     const uint8_t *text, size_t text_len);
 
 /* Where the text of the i-th record stands: returns 1 for the source, 2 for the text, and 0 where the record has none.
  * The first byte's place and the length are put at from and length; 0 and 0 where there is no text.

@@ -13,6 +13,8 @@ extern "C" {
         used: *mut usize,
     ) -> u8;
 
+    fn vealtikum_check(source: *const u8, source_len: usize, nodes: *const u16, nodes_len: usize, text: *const u8, text_len: usize) -> bool;
+
     fn vealtikum_text(
         source: *const u8,
         source_len: usize,
@@ -41,6 +43,11 @@ pub(crate) fn read(source: &[u8], nodes: &mut [u16], text: &mut [u8]) -> Numbers
         vealtikum_read(source.as_ptr(), source.len(), nodes.as_mut_ptr(), nodes.len(), text.as_mut_ptr(), text.len(), &mut place, &mut count, &mut used)
     };
     Numbers { kind, place, nodes: count, text: used }
+}
+
+pub(crate) fn check(source: &[u8], nodes: &[u16], text: &[u8]) -> bool {
+    // SAFETY: as above; nothing is written.
+    unsafe { vealtikum_check(source.as_ptr(), source.len(), nodes.as_ptr(), nodes.len(), text.as_ptr(), text.len()) }
 }
 
 /// The text of the i-th record: a part of the source or of the text.

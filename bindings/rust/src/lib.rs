@@ -1,4 +1,4 @@
-//! Reads HCL expressions. What [`read`] answers is proved of the code behind it, for every source and every room.
+//! Reads HCL expressions, and checks readings. What [`read`] and [`check`] answer is proved of the code behind them, for every source, room and table.
 //!
 //! A source is bytes, at most 65,535 of them. It holds one expression, from its first byte to its last.
 //!
@@ -28,7 +28,7 @@
 //! );
 //! ```
 //!
-//! [`parse`] allocates the room that it needs. [`read`] is lent room and allocates nothing.
+//! [`parse`] allocates the room that it needs. [`read`] is lent room and allocates nothing. [`Table::from_parts`] takes back a reading that was kept.
 #![warn(missing_docs)]
 
 mod error;
@@ -40,7 +40,7 @@ mod table;
 
 pub use error::{Error, Location};
 pub use kind::Kind;
-pub use reading::{parse, read, Answer, Reading};
+pub use reading::{check, parse, read, Answer, Reading};
 pub use refusal::Refusal;
 pub use table::{Children, Node, Table, Walk};
 

@@ -31,6 +31,21 @@ pub fn read<'a>(source: &'a [u8], nodes: &'a mut [u16], text: &'a mut [u8]) -> A
     }
 }
 
+/// Whether numbers and text from anyone are the reading of a source: yes exactly where [`read`], lent enough room, accepts
+/// the source and writes these very numbers and bytes. It does not read the source again.
+///
+/// ```
+/// use vealtikum::{check, parse};
+/// let (nodes, text) = parse(b"8 - 3 - 2")?.into_parts();
+/// assert!(check(b"8 - 3 - 2", &nodes, &text));
+/// // this groups in another way
+/// assert!(!check(b"8 - 3 * 2", &nodes, &text));
+/// # Ok::<(), vealtikum::Error>(())
+/// ```
+pub fn check(source: &[u8], nodes: &[u16], text: &[u8]) -> bool {
+    ffi::check(source, nodes, text)
+}
+
 /// A reading that owns its records and its text. The source stays the caller's.
 #[derive(Debug, Clone, PartialEq, Eq)]
 pub struct Reading<'s> {
@@ -50,7 +65,7 @@ impl<'s> Reading<'s> {
         self.table().root()
     }
 
-    /// The records and the text, to be kept.
+    /// The records and the text, to be kept. [`Table::from_parts`] takes them back.
     pub fn into_parts(self) -> (Vec<u16>, Vec<u8>) {
         (self.nodes, self.text)
     }

@@ -4,7 +4,7 @@ use std::ops::Range;
 
 /// The reading of a source: its records and its text, next to the source itself.
 ///
-/// Only an acceptance makes one, so its records are a reading's.
+/// Only an acceptance or a check makes one, so its records are a reading's.
 #[derive(Clone, Copy, PartialEq, Eq)]
 pub struct Table<'a> {
     source: &'a [u8],
@@ -13,9 +13,24 @@ pub struct Table<'a> {
 }
 
 impl<'a> Table<'a> {
-    /// A table that an acceptance wrote. It has at least one record.
+    /// A table that an acceptance wrote, or that was checked. It has at least one record.
     pub(crate) fn accepted(source: &'a [u8], nodes: &'a [u16], text: &'a [u8]) -> Table<'a> {
         Table { source, nodes, text }
+    }
+
+    /// Numbers and text that were kept, or that come from anyone, as a table; none where they are not the reading of the source.
+    ///
+    /// ```
+    /// use vealtikum::{parse, Kind, Table};
+    /// let (nodes, text) = parse(b"8 - 3")?.into_parts();
+    /// let table = Table::from_parts(b"8 - 3", &nodes, &text).unwrap();
+    /// assert_eq!(table.root().kind(), Kind::Subtract);
+    /// // the source has changed since
+    /// assert_eq!(Table::from_parts(b"8 + 3", &nodes, &text), None);
+    /// # Ok::<(), vealtikum::Error>(())
+    /// ```
+    pub fn from_parts(source: &'a [u8], nodes: &'a [u16], text: &'a [u8]) -> Option<Table<'a>> {
+        ffi::check(source, nodes, text).then(|| Table::accepted(source, nodes, text))
     }
 
     /// The source.

@@ -6,7 +6,7 @@ mod common;
 use common::{assert_tree, file, sources};
 use std::env;
 use std::panic::{catch_unwind, AssertUnwindSafe};
-use vealtikum::{parse, read, Answer, Reading, Refusal, LONGEST, WIDTH};
+use vealtikum::{check, parse, read, Answer, Reading, Refusal, Table, LONGEST, WIDTH};
 
 const INPUTS: u64 = 100_000;
 
@@ -124,8 +124,8 @@ fn source(i: u64, list: &[&[u8]]) -> Vec<u8> {
     }
 }
 
-/// An acceptance is a whole tree. Just enough room gives the same, and a little less gives a refusal that tells the needs.
-fn accepted(source: &[u8], reading: &Reading<'_>) {
+/// An acceptance is a whole tree and passes the check; with a number or a byte changed it does not. Just enough room gives the same, and a little less gives a refusal that tells the needs.
+fn accepted(source: &[u8], reading: &Reading<'_>, dice: &mut Dice) {
     let table = reading.table();
     assert!(table.source() == source && table.len() <= source.len() && table.text().len() <= source.len());
     assert_tree(table);
@@ -138,13 +138,21 @@ fn accepted(source: &[u8], reading: &Reading<'_>) {
     }
     assert!(nodes.iter().all(|&n| n == 7) && text.iter().all(|&b| b == 7));
     assert!(read(source, &mut nodes, &mut text) == Answer::Accepted(table));
+    assert!(Table::from_parts(source, &nodes, &text) == Some(table));
+    let at = dice.below(nodes.len());
+    nodes[at] ^= 1 << dice.below(16);
+    assert!(!check(source, &nodes, &text), "number {at} as {}", nodes[at]);
+    if bytes != 0 {
+        text[dice.below(bytes)] ^= 1 << dice.below(8);
+        assert!(!check(source, table.numbers(), &text));
+    }
 }
 
 /// Gives back the number of the answer.
-fn ask(source: &[u8]) -> usize {
+fn ask(source: &[u8], dice: &mut Dice) -> usize {
     match parse(source) {
         Ok(reading) => {
-            accepted(source, &reading);
+            accepted(source, &reading, dice);
             0
         }
         Err(error) => {
@@ -167,7 +175,7 @@ fn random_and_damaged_sources() {
     let mut seen = [0; 13];
     for i in 0..inputs {
         let source = source(i, &list);
-        let answer = catch_unwind(AssertUnwindSafe(|| ask(&source)));
+        let answer = catch_unwind(AssertUnwindSafe(|| ask(&source, &mut Dice::of(inputs + i))));
         seen[answer.unwrap_or_else(|_| panic!("source {i}: {}", source.escape_ascii()))] += 1;
     }
     println!("{inputs} sources; by answer {seen:?}");
