@@ -1,4 +1,4 @@
-/* Reads a file's source through the static library: drive read FILE TIMES. Without TIMES it prints MB/s. */
+/* Reads a file's source through the static library, or checks its reading: drive read|check FILE TIMES. Without TIMES it prints MB/s. */
 #define _POSIX_C_SOURCE 200809L
 #include "../bindings/c/vealtikum.h"
 
@@ -10,13 +10,20 @@
 static uint8_t source[VEALTIKUM_LONGEST];
 static uint16_t nodes[VEALTIKUM_LONGEST * VEALTIKUM_WIDTH];
 static uint8_t text[VEALTIKUM_LONGEST];
-static size_t size;
+static size_t size, count, used;
 
-static void once(void) {
-    size_t place, count, used;
+static void readit(void) {
+    size_t place;
     uint8_t kind = vealtikum_read(source, size, nodes, sizeof nodes / sizeof nodes[0], text, sizeof text, &place, &count, &used);
     if (kind != VEALTIKUM_ACCEPTED) {
         fprintf(stderr, "drive: refused, kind %u, place %zu\n", kind, place);
+        exit(1);
+    }
+}
+
+static void checkit(void) {
+    if (!vealtikum_check(source, size, nodes, count * VEALTIKUM_WIDTH, text, used)) {
+        fprintf(stderr, "drive: the check says no\n");
         exit(1);
     }
 }
@@ -28,12 +35,17 @@ static double now(void) {
 }
 
 int main(int words, char **word) {
-    FILE *file = 2 < words && strcmp(word[1], "read") == 0 ? fopen(word[2], "rb") : NULL;
+    FILE *file = 2 < words ? fopen(word[2], "rb") : NULL;
     if (file == NULL) {
-        fprintf(stderr, "usage: drive read FILE [TIMES]\n");
+        fprintf(stderr, "usage: drive read|check FILE [TIMES]\n");
         return 2;
     }
     size = fread(source, 1, sizeof source, file);
+    void (*once)(void) = readit;
+    if (strcmp(word[1], "check") == 0) {
+        readit();
+        once = checkit;
+    }
     if (3 < words) {
         for (long i = atol(word[3]); 0 < i; i--) once();
         return 0;

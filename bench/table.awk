@@ -16,16 +16,17 @@ function growth(material, _) {
 }
 
 BEGIN {
-    print "| Input | Bytes | Reader, instructions a byte | Reader, MB/s | Go, instructions a byte | Go, MB/s | Ratio |"
-    print "|---|--:|--:|--:|--:|--:|--:|"
+    print "| Input | Bytes | Reader, instructions a byte | Reader, MB/s | Checker, instructions a byte | Checker, MB/s | Go, instructions a byte | Go, MB/s | Ratio |"
+    print "|---|--:|--:|--:|--:|--:|--:|--:|--:|"
 }
 
 {
     reader[$1] = $3
     speed[$1] = $4
-    go[$1] = $5
-    gospeed[$1] = $6
-    printf "| %s | %d | %s | %s | %s | %s | %.1f |\n", $1, $2, $3, $4, $5, $6, ratio($1)
+    checker[$1] = $5
+    go[$1] = $7
+    gospeed[$1] = $8
+    printf "| %s | %d | %s | %s | %s | %s | %s | %s | %.1f |\n", $1, $2, $3, $4, $5, $6, $7, $8, ratio($1)
 }
 
 END {
@@ -34,6 +35,7 @@ END {
     if ("mixed-60000" in reader) {
         target("times as fast as Go, mixed object", "at least 40", sprintf("%.1f", ratio("mixed-60000")), 40 <= ratio("mixed-60000"))
         most("instructions a byte, mixed object, both passes", 60, reader["mixed-60000"])
+        most("instructions a byte, mixed object, checker", 40, checker["mixed-60000"])
     }
     if ("operators-64k" in reader) most("instructions a byte, run of operators", 120, reader["operators-64k"])
     if ("keys-2000" in reader && "array-2000" in reader) most("2,000 keys to the same bytes as an array", 1.5, reader["keys-2000"] / reader["array-2000"])
