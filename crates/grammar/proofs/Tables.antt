@@ -75,3 +75,15 @@ level-high k h = rw (le-leb 24 k (omega arith), lt-leb k 36 h)
 
 pub level-in : (k : ℕ) → 24 ≤ k → k ≤ 36 → levelOf k ≡ tightOf k - 1
 level-in k h g = rw (le-leb 24 k h, le-leb k 36 g)
+
+-- ---- tables as a match: an arm for each entry, and one for what lies behind
+
+-- x is none of the first n numbers, as the last arm is told
+unfoldable pub Others : ℕ → ℕ → Type 0
+Others zero x = Unit {0}
+Others (suc n) x = Others n x × (x ≡ n → ⊥)
+
+pub behind : (n x : ℕ) → Others n x → n ≤ x
+unfolding Others
+behind zero x o = omega arith
+behind (suc n) x o = let h = behind n x (o .0) in let d = o .1 in omega (arith, h, d)
