@@ -1,4 +1,4 @@
-/* Reads a file's source through the static library, or checks its reading: drive read|check FILE TIMES. Without TIMES it prints MB/s. */
+/* Reads a file's source through the static library of the reader, or checks its reading through that of the checker: drive read|check FILE TIMES. Without TIMES it prints MB/s. */
 #define _POSIX_C_SOURCE 200809L
 #include "../bindings/c/vealtikum.h"
 

@@ -7,7 +7,8 @@
  *
  * The functions keep nothing between calls and allocate nothing. They may run in several threads at once.
  *
- * The library is for x86-64 Linux.
+ * There are two static libraries, for x86-64 Linux: libcapi.a has vealtikum_read and vealtikum_text, libcapicheck.a has
+ * vealtikum_check. A program links the ones that it calls, in either order.
  */
 #ifndef VEALTIKUM_H
 #define VEALTIKUM_H

@@ -1,4 +1,4 @@
-//! The functions of the static library, and safe ones over them. No other file has `unsafe`.
+//! The functions of the static libraries, and safe ones over them. No other file has `unsafe`.
 
 extern "C" {
     fn vealtikum_read(

@@ -1,5 +1,4 @@
-// The functions that a program in C or Rust calls: reading, checking, and the text of a node. A slice is a pointer and a length there.
-use checker::check;
+// The functions that a program in C or Rust calls: reading, and the text of a node. A slice is a pointer and a length there.
 use reader::node::has_text;
 use reader::read;
 ghost use mathlib.Core.Path.{_≡_};
@@ -7,7 +6,6 @@ ghost use Prim.Native.Nat.{_+_, _*_, _/_, _<_};
 ghost use lib.ListN.{length};
 ghost use Rattle.reader.specs.Node.{numberAt};
 ghost use Rattle.reader.specs.Read.{Reads};
-ghost use Rattle.checker.specs.Check.{Checks};
 ghost use Rattle.capi.specs.Where.{Stands};
 
 // Reads a source into lent room, and gives back the answer's kind; its other numbers go where the pointers say.
@@ -27,14 +25,6 @@ pub extern "C" fn vealtikum_read(
     *count = a.nodes;
     *used = a.text;
     a.kind
-}
-
-// Whether a table and a text from anyone are the reading of a source.
-#[no_mangle]
-pub extern "C" fn vealtikum_check(source: &[u8], nodes: &[u16], text: &[u8]) -> bool
-    ensures { λ r. ⌜ Checks (now (source .entry)) (now (nodes .entry)) (now (text .entry)) r ⌝ }
-{
-    check(source, nodes, text)
 }
 
 // Where the text of the i-th record stands: gives back 1 for the source, 2 for the text buffer, 0 where there is none, and puts the first byte's place and the length where the pointers say.
