@@ -4,3 +4,4 @@ pub mod Steps
 pub mod Leaves
 pub mod Walks
 pub mod Callings
+pub mod Heads

@@ -197,7 +197,7 @@ module _ (s : List ℕ) where
   -- ---- words and identifiers
 
   -- a word is the whole identifier
-  word-ends : (w : List ℕ) (p : ℕ) → T (allOf isRest w) → isStart (byteAt s p) ≡ true → isWord w s p ≡ true → identTo s p ≡ p + length w
+  pub word-ends : (w : List ℕ) (p : ℕ) → T (allOf isRest w) → isStart (byteAt s p) ≡ true → isWord w s p ≡ true → identTo s p ≡ p + length w
   word-ends w p t e f =
       let a = and-left (stands w s p) (not (isRest (byteAt s (p + length w)))) f in
       let b = not-true (isRest (byteAt s (p + length w))) (and-right (stands w s p) (not (isRest (byteAt s (p + length w)))) f) in

@@ -22,6 +22,7 @@ pub mod Thrift
 pub mod Wants
 pub mod Programmed
 pub mod Said
+pub mod Alone
 pub mod PickLaws
 pub mod TakeLaws
 pub mod BoundLaws

@@ -6,6 +6,7 @@ use lexis::bytes::byte_at;
 use lexis::bytes::is_digit;
 use lexis::bytes::is_start;
 use lexis::bytes::two_at;
+use lexis::number::number_end;
 use lexis::operator::equals_end;
 use lexis::operator::op_at;
 use lexis::string::Why;
@@ -21,7 +22,14 @@ ghost use Rattle.lexis.specs.Bytes.{isDigit};
 ghost use Rattle.lexis.specs.Trivia.{gapTo};
 ghost use Rattle.grammar.specs.Moves.{keyTo, lone};
 ghost use Rattle.grammar.specs.Hcl.{isBroken};
+ghost use Rattle.grammar.specs.Alone.{headOf, HeadAt, NextAt};
 ghost use Rattle.grammar.specs.Said.{TermAt, PartAt, Follow, byteBeyond, callsAt, wordKind, forBeyond, brokenAt, colonAt};
+
+// A kind, and the end of its token where that is looked at; else the place itself.
+pub struct Head {
+    pub kind: u16,
+    pub end: usize,
+}
 
 // The byte behind the trivia from p; NOTHING where a comment in it is unclosed.
 fn beyond(s: &[u8], p: usize, lines: bool) -> u16
@@ -141,6 +149,36 @@ pub fn term_at(s: &[u8], p: usize, lines: bool) -> u16
     }
 }
 
+fn headed(kind: u16, end: usize) -> Head
+    ensures { λ r. ⌜ r ≡ headOf kind end ⌝ }
+{
+    Head { kind, end }
+}
+
+// The term that may start at p; its end too where it is a word or a number without a sign, so that nobody looks at these twice.
+pub fn head_at(s: &[u8], p: usize, lines: bool) -> Head
+    ensures { λ r. ⌜ HeadAt (now (s .entry)) p lines r ⌝ }
+{
+    let b = byte_at(s, p);
+    if is_digit(b) {
+        let e = number_end(s, p);
+        return headed(Kind::NUMBER, e);
+    }
+    if !is_start(b) {
+        let k = term_at(s, p, lines);
+        return headed(k, p);
+    }
+    let e = ident_end(s, p);
+    if calls(s, e, lines) {
+        return headed(Kind::CALL, p);
+    }
+    let k = constant_at(s, p);
+    if k != 0 {
+        return headed(k, e);
+    }
+    headed(Kind::VARIABLE, e)
+}
+
 // The part of a traversal that may start at p.
 pub fn part_at(s: &[u8], p: usize) -> u16
     ensures { λ r. ⌜ PartAt (now (s .entry)) p r ⌝ }
@@ -190,6 +228,29 @@ pub fn follow(s: &[u8], p: usize, lines: bool) -> u16
     } else {
         Kind::NONE
     }
+}
+
+// The same, with the end of a binary operator.
+pub fn next_at(s: &[u8], p: usize, lines: bool) -> Head
+    ensures { λ r. ⌜ NextAt (now (s .entry)) p lines r ⌝ }
+{
+    let g = skip(s, p, lines);
+    let at = g.at;
+    if g.unclosed {
+        return headed(Kind::NONE, p);
+    }
+    let o = op_at(s, at);
+    let k = o.kind;
+    if k != 0 {
+        return headed(k, at + o.width);
+    }
+    if byte_at(s, at) == 63 {
+        return headed(Kind::CONDITIONAL, p);
+    }
+    if is_part(s, at) {
+        return headed(Kind::TRAVERSAL, p);
+    }
+    headed(Kind::NONE, p)
 }
 
 // The end of the token that a key begins with: a word or a plain string.

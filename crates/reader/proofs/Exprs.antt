@@ -29,7 +29,7 @@ use Rattle.grammar.specs.Thrift.{spare, bonus}
 use Rattle.grammar.specs.Wants.{wantIn, wantAs, below}
 use Rattle.grammar.specs.Said.{kindOf, TermAt, Follow, wentOf}
 use Rattle.grammar.specs.PickLaws.{Following, kind-some, pick-none, follow-none, follow-kind, followed, followers, Term, term-of, picked-term}
-use Rattle.reader.specs.Said.{stepOf, Climbs, Terms, Heads, Good, Kept, Any, underAny, anyBefore, toldAs, Said, Makes, madeAs, Made, SaidMade, SaidSub, Asked}
+use Rattle.reader.specs.Said.{stepOf, Climbs, Firsts, Terms, Heads, Good, Kept, Any, underAny, anyBefore, toldAs, Said, Makes, madeAs, Made, SaidMade, SaidSub, Asked}
 use Rattle.reader.proofs.Answers.{good, from-good, refused, pass, kept-join, Done, done, done-head, head-no, head-whole, head-whole-no, fits-all, Turning, turned, turning-start, turning-more, turning-no}
 
 -- ---- a production that stands first, as an answer
@@ -117,14 +117,14 @@ module _ {s : List ℕ} {left : ℕ} {lines : Bool} {i u p e₀ n₀ t₀ : ℕ}
 abbrev pub Only : ℕ → ℕ → Type 0
 Only j o = o ≡ j
 
-terms-part : {s : List ℕ} {a : Under} {p i u : ℕ} {b b′ x x′ : List ℕ} {e n t j : ℕ} (g : Good (Terms s a p) s i u p b b′ x x′ e n t) → j ≤ 7 → (o : ℕ) → Only j o → Part (hcl s) (a, o) p (g .tree)
-terms-part {j = j} g h o z = g .gives .0 o (omega arith)
+firsts-part : {s : List ℕ} {a : Under} {p i u : ℕ} {b b′ x x′ : List ℕ} {e n t j : ℕ} (g : Good (Firsts s a p) s i u p b b′ x x′ e n t) → j ≤ 7 → (o : ℕ) → Only j o → Part (hcl s) (a, o) p (g .tree)
+firsts-part {j = j} g h o z = g .gives o (omega arith)
 
 module _ {s : List ℕ} {left : ℕ} {lines : Bool} {i u p j e₀ n₀ t₀ : ℕ} {b₀ x₀ b x b′ x′ : List ℕ} {e n t : ℕ} (w : Turning (Only j) s (under left lines anExpression) i u p e₀ n₀ t₀ b b′ x x′ e n t)
-    (l : Good (Terms s (under left lines anExpression) p) s i u p b₀ b x₀ x e₀ n₀ t₀) (low : j ≤ 7) {f : ℕ} (next : Follow s e lines f) where
+    (l : Good (Firsts s (under left lines anExpression) p) s i u p b₀ b x₀ x e₀ n₀ t₀) (low : j ≤ 7) {f : ℕ} (next : Follow s e lines f) where
   pub expr-stop : tightOf f ≤ j → {r : Step} {K : ℕ} {y y′ : List ℕ} → r ≡ stepOf 0 e n t → Kept K y y′ → Said (Climbs s (under left lines anExpression) j p) s i u K p b₀ b′ x₀ x′ y y′ r
   expr-stop h q kept =
-      from-good (turned w l (terms-part l low) (λ z part end. part-stop (hcl s) (part j refl) (subst (λ (o : ℕ). after (hcl s) (under left lines anExpression) o ≤ j) (sym end) (omega (arith, after-is s left lines e f next))))) q kept
+      from-good (turned w l (firsts-part l low) (λ z part end. part-stop (hcl s) (part j refl) (subst (λ (o : ℕ). after (hcl s) (under left lines anExpression) o ≤ j) (sym end) (omega (arith, after-is s left lines e f next))))) q kept
 
   module _ (h : j < tightOf f) where
     some-kind : ¬ (f ≡ 0)
@@ -146,7 +146,7 @@ module _ {s : List ℕ} {left : ℕ} {lines : Bool} {i u p j e₀ n₀ t₀ : �
       pub expr-no : ¬ (r .kind ≡ 0) → {K′ : ℕ} {v v′ : List ℕ} {c c′ : List ℕ} → Kept K′ v v′ → Said (Climbs s (under left lines anExpression) j p) s i u K′ p b₀ c x₀ c′ v v′ r
       expr-no z kept =
           let o = made-refused (m .made) z in
-          refused (o .kind) (o .place) (o .is) (grows-no w is-next (follower .want) above m l (terms-part l low) z j refl) (o .pos)
+          refused (o .kind) (o .place) (o .is) (grows-no w is-next (follower .want) above m l (firsts-part l low) z j refl) (o .pos)
           (omega (arith, w .room, m .room, ap (λ (v : Step). v .end) (o .is))) (omega (arith, m .high, ap (λ (v : Step). v .end) (o .is))) kept
 
       pub expr-more : r .kind ≡ 0 → Turning (Only j) s (under left lines anExpression) i u p e₀ n₀ t₀ b b″ x x″ (r .end) (n + r .count) (t + r .text)

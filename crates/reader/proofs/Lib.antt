@@ -7,6 +7,7 @@ mod Laidings
 mod Exprs
 mod Unaries
 mod Terms
+mod Firsts
 mod Subs
 mod Texts
 mod Pieces

@@ -50,6 +50,12 @@ Terms s b p (ok t) = ((j : ℕ) → j ≤ 7 → Part (hcl s) (b, j) p t) × (aft
 Terms s b p (halt x q) = (j : ℕ) → j ≤ 7 → FailAt (grammar (hcl s)) (b, j) p x q
 Terms s b p stuck = ⊥
 
+-- what stands first, a unary operator with its term: what stands so far, whatever operators and traversals may follow
+abbrev pub Firsts : List ℕ → Under → ℕ → Outcome ℕ (Tree ℕ) → Type 0
+Firsts s b p (ok t) = (j : ℕ) → j ≤ 7 → Part (hcl s) (b, j) p t
+Firsts s b p (halt x q) = (j : ℕ) → j ≤ 7 → FailAt (grammar (hcl s)) (b, j) p x q
+Firsts s b p stuck = ⊥
+
 -- what stands first, without its traversals
 abbrev pub Heads : List ℕ → Under → ℕ → Outcome ℕ (Tree ℕ) → Type 0
 Heads s b p o = Begins (hcl s) b p o

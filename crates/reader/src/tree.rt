@@ -17,6 +17,8 @@ use grammar::moves::space;
 use grammar::moves::unexpected;
 use grammar::moves::walk;
 use grammar::picks::follow;
+use grammar::picks::head_at;
+use grammar::picks::next_at;
 use grammar::picks::part_at;
 use grammar::picks::term_at;
 use grammar::program::Instr;
@@ -35,10 +37,11 @@ ghost use Prim.Native.Nat.{_≤_};
 ghost use lib.Dec.{eqb, T};
 ghost use Rattle.engine.specs.Base.{has};
 ghost use Rattle.grammar.specs.Said.{classes};
+ghost use Rattle.grammar.specs.Alone.{headOf, HeadAt, NextAt};
 ghost use Rattle.grammar.specs.Moves.{anExpression};
 ghost use Rattle.grammar.specs.Layouts.{layoutOf, textLay};
 ghost use Rattle.grammar.specs.Hcl.{under, pickAt};
-ghost use Rattle.reader.specs.Said.{Asked, Said, Climbs, Terms, Heads, Primary, Laying, SaidMade, SaidSub, SaidItem, Any, underAny, anyBefore, One, Texting};
+ghost use Rattle.reader.specs.Said.{Asked, Said, Climbs, Firsts, Terms, Heads, Primary, Laying, SaidMade, SaidSub, SaidItem, Any, underAny, anyBefore, One, Texting};
 
 // The classes that are no expressions, as the program numbers them.
 const CALLED: u8 = 9;
@@ -64,7 +67,8 @@ pub fn expr(
     requires { ⌜ Asked (now s) (now keys) i u k p × (j ≤ 7) ⌝ }
     ensures { λ r. ⌜ Said (Climbs (now (s .entry)) (under left lines anExpression) j p) (now (s .entry)) i u k p (now (nodes .entry)) (now (nodes .exit)) (now (text .entry)) (now (text .exit)) (now (keys .entry)) (now (keys .exit)) r ⌝ }
 {
-    let l = term(s, nodes, text, keys, i, u, k, p, left, lines);
+    let x = head_at(s, p, lines);
+    let l = first(s, nodes, text, keys, i, u, k, p, left, lines, x.kind, x.end);
     if l.kind != 0 {
         return l;
     }
@@ -72,12 +76,11 @@ pub fn expr(
     let mut n = l.count;
     let mut t = l.text;
     loop {
-        let f = follow(s, e, lines);
-        let h = tight(f) as usize;
-        if h <= j {
+        let f = next_at(s, e, lines);
+        if tight(f.kind) as usize <= j {
             return accept(e, n, t);
         }
-        let m = laid(
+        let m = grow(
             s,
             nodes,
             text,
@@ -89,7 +92,8 @@ pub fn expr(
             e,
             left,
             lines,
-            f,
+            f.kind,
+            f.end,
             n,
         );
         if m.kind != 0 {
@@ -99,6 +103,86 @@ pub fn expr(
         n = n + m.count;
         t = t + m.text;
     }
+}
+
+// What stands first at p, of a kind, with the term of a unary operator; a word or a number ends at `end`, which is p for all else.
+pub fn first(
+    s: &[u8],
+    nodes: &mut [u16],
+    text: &mut [u8],
+    keys: &mut [u16],
+    i: usize,
+    u: usize,
+    k: usize,
+    p: usize,
+    left: usize,
+    lines: bool,
+    kind: u16,
+    end: usize,
+) -> Step
+    requires { ⌜ Asked (now s) (now keys) i u k p × HeadAt (now s) p lines (headOf kind end) ⌝ }
+    ensures { λ r. ⌜ Said (Firsts (now (s .entry)) (under left lines anExpression) p) (now (s .entry)) i u k p (now (nodes .entry)) (now (nodes .exit)) (now (text .entry)) (now (text .exit)) (now (keys .entry)) (now (keys .exit)) r ⌝ }
+{
+    if end != p {
+        return close(nodes, i, 0, kind, 0, p, end, 0, 0);
+    }
+    if kind == Kind::NONE {
+        let w = unexpected(s, p);
+        return refuse(w.kind, w.at);
+    }
+    if is_unary(kind) {
+        return term(s, nodes, text, keys, i, u, k, p, left, lines);
+    }
+    prim(s, nodes, text, keys, i, u, k, p, left, lines, kind)
+}
+
+// What follows an operand from `start` to p, of a kind; a binary operator ends at `end`, which is p for all else. `before` records of the operand stand before the i-th.
+pub fn grow(
+    s: &[u8],
+    nodes: &mut [u16],
+    text: &mut [u8],
+    keys: &mut [u16],
+    i: usize,
+    u: usize,
+    k: usize,
+    start: usize,
+    p: usize,
+    left: usize,
+    lines: bool,
+    kind: u16,
+    end: usize,
+    before: usize,
+) -> Step
+    requires { ⌜ Asked (now s) (now keys) i u k p × Laying start p before kind × NextAt (now s) p lines (headOf kind end) ⌝ }
+    ensures { λ r. ⌜ SaidMade Any (now (s .entry)) (underAny kind left lines) start anyBefore kind (layoutOf kind) p i u before p k (now (nodes .entry)) (now (nodes .exit)) (now (text .entry)) (now (text .exit)) (now (keys .entry)) (now (keys .exit)) r ⌝ }
+{
+    if end == p {
+        return laid(
+            s,
+            nodes,
+            text,
+            keys,
+            i,
+            u,
+            k,
+            start,
+            p,
+            left,
+            lines,
+            kind,
+            before,
+        );
+    }
+    let g = space(s, end, lines);
+    if g.kind != 0 {
+        return refuse(g.kind, g.at);
+    }
+    let h = tight(kind) as usize;
+    let m = expr(s, nodes, text, keys, i, u, k, g.at, left, lines, h);
+    if m.kind != 0 {
+        return m;
+    }
+    close(nodes, i, m.count, kind, 0, start, m.end, before, m.text)
 }
 
 // A term at p, its traversals included; for a unary operator it calls itself.

@@ -6,6 +6,10 @@ use borrow.Fn.Kinds.{In}
 use borrow.Fn.PlainCycle.{Measures, is, falls, and}
 use Rattle.reader.proofs.tree.expr.Reads as expr
 use Rattle.reader.proofs.tree.expr.Kinds as expr-kinds
+use Rattle.reader.proofs.tree.first.Reads as first
+use Rattle.reader.proofs.tree.first.Kinds as first-kinds
+use Rattle.reader.proofs.tree.grow.Reads as grow
+use Rattle.reader.proofs.tree.grow.Kinds as grow-kinds
 use Rattle.reader.proofs.tree.heredoc.Reads as heredoc
 use Rattle.reader.proofs.tree.heredoc.Kinds as heredoc-kinds
 use Rattle.reader.proofs.tree.interp.Reads as interp
@@ -29,6 +33,12 @@ use Rattle.reader.proofs.tree.term.Kinds as term-kinds
 
 abbrev pub μ-expr : Measures 4 expr-kinds.ps ℕ
 μ-expr κs a = 8388608 * a .1 .1 .1 .1 .1 .1 .1 .1 .0 + 128 * (length (a .0 .now) - a .1 .1 .1 .1 .1 .1 .1 .0) + 100
+
+abbrev pub μ-first : Measures 4 first-kinds.ps ℕ
+μ-first κs a = 8388608 * a .1 .1 .1 .1 .1 .1 .1 .1 .0 + 128 * (length (a .0 .now) - a .1 .1 .1 .1 .1 .1 .1 .0) + 99
+
+abbrev pub μ-grow : Measures 4 grow-kinds.ps ℕ
+μ-grow κs a = 8388608 * a .1 .1 .1 .1 .1 .1 .1 .1 .1 .0 + 128 * (length (a .0 .now) - a .1 .1 .1 .1 .1 .1 .1 .1 .0) + 88
 
 abbrev pub μ-heredoc : Measures 4 heredoc-kinds.ps ℕ
 μ-heredoc κs a = 8388608 * a .1 .1 .1 .1 .1 .1 .1 .1 .0 + 128 * (length (a .0 .now) - a .1 .1 .1 .1 .1 .1 .1 .0) + 94
@@ -65,6 +75,18 @@ expr-at t = and 4 expr-kinds.ps (is 4 expr-kinds.ps μ-expr t) expr.Pre
 
 abbrev pub expr-below : ℕ → In 4 expr-kinds.ps
 expr-below t = and 4 expr-kinds.ps (falls 4 expr-kinds.ps _<_ μ-expr t) expr.Pre
+
+abbrev pub first-at : ℕ → In 4 first-kinds.ps
+first-at t = and 4 first-kinds.ps (is 4 first-kinds.ps μ-first t) first.Pre
+
+abbrev pub first-below : ℕ → In 4 first-kinds.ps
+first-below t = and 4 first-kinds.ps (falls 4 first-kinds.ps _<_ μ-first t) first.Pre
+
+abbrev pub grow-at : ℕ → In 4 grow-kinds.ps
+grow-at t = and 4 grow-kinds.ps (is 4 grow-kinds.ps μ-grow t) grow.Pre
+
+abbrev pub grow-below : ℕ → In 4 grow-kinds.ps
+grow-below t = and 4 grow-kinds.ps (falls 4 grow-kinds.ps _<_ μ-grow t) grow.Pre
 
 abbrev pub heredoc-at : ℕ → In 4 heredoc-kinds.ps
 heredoc-at t = and 4 heredoc-kinds.ps (is 4 heredoc-kinds.ps μ-heredoc t) heredoc.Pre

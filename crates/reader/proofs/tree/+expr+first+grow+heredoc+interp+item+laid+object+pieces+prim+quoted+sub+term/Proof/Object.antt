@@ -7,14 +7,14 @@ use borrow.Author.Needs.{needs}
 use Prim.Native.Nat.{ℕ, _-_}
 use Rattle.reader.proofs.tree.item.Reads as item
 use Rattle.reader.proofs.tree.object.Reads as object
-use Rattle.reader.proofs.tree.+expr+heredoc+interp+item+laid+object+pieces+prim+quoted+sub+term.Lts-object as object-lts
+use Rattle.reader.proofs.tree.+expr+first+grow+heredoc+interp+item+laid+object+pieces+prim+quoted+sub+term.Lts-object as object-lts
 use Rattle.grammar.proofs.moves.space.Reads as space-reads
 use Rattle.lexis.proofs.bytes.one_at.Reads as one-at-reads
 use Rattle.reader.proofs.items.behind.Reads as behind-reads
 use Rattle.reader.proofs.items.keep.Reads as keep-reads
 use Rattle.reader.proofs.put.close.Reads as close-reads
 use Rattle.reader.proofs.put.refuse.Reads as refuse-reads
-use Rattle.reader.proofs.tree.+expr+heredoc+interp+item+laid+object+pieces+prim+quoted+sub+term.Proof.Common.{object-at, item-below}
+use Rattle.reader.proofs.tree.+expr+first+grow+heredoc+interp+item+laid+object+pieces+prim+quoted+sub+term.Proof.Common.{object-at, item-below}
 
 -- what `object` calls, below the measure t
 abbrev calls : ℕ → object-lts.Claims
