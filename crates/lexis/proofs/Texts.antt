@@ -3,15 +3,16 @@ use Prim.Native.Nat.{ℕ, zero, suc, _+_, _-_, _≤_, _<_}
 use mathlib.Core.Path.{_≡_, refl, sym, ap, subst, _∙_}
 use mathlib.Core.List.{List, [], _∷_, _++_}
 use mathlib.Core.Bool.{Bool, true, false, cond, _&&_, _||_}
+use mathlib.Core.Bool as bool
 use native.Mathlib.Nat.{zero-add}
 use native.Mathlib.Omega.{arith}
 use lib.ListN.{length, take, drop, length-drop, length-append}
 use lib.Dec.{ltb, eqb}
 use lib.Seq.{getD-drop, drop-drop, drop-cons, take-add}
 use borrow.Author.Tests.{ne-eqb, lt-ltb, le-ltb, eqb-true, ltb-true, ltb-false}
-use Rattle.lexis.specs.Bytes.{byteAt}
+use Rattle.lexis.specs.Bytes.{byteAt, Byte}
 use Rattle.lexis.specs.Heredoc.{closing, freshAt, part, lineAs, lineAt}
-use Rattle.lexis.specs.String.{Mode, quoted, heredoc, Unit, is, not, plain, marker, unit, lineOr, unitIn, Text, ended, added, unitElse, textAfter, textAt, modeOf, packed, pieceOf, runOf, RunHere, UnitHere}
+use Rattle.lexis.specs.String.{Mode, quoted, heredoc, Unit, is, not, plain, marker, unit, lineOr, unitIn, plainIn, Text, ended, added, unitElse, textAfter, textAt, modeOf, packed, pieceOf, runOf, RunHere, UnitHere}
 use Rattle.lexis.specs.declared.heredoc.Line.{Line}
 use Rattle.lexis.specs.declared.heredoc.Line.the-variants as line
 use Rattle.lexis.specs.declared.string.Why.{Why}
@@ -275,3 +276,52 @@ module _ {m : Mode} {s : List ℕ} {p i n : ℕ} {f : Bool} (g : Going m s p i n
 
   pub going-more : {u : Piece} → UnitHere s (unitIn m f (drop i s)) i u → (u .width ≡ 0 → ⊥) → Going m s p (i + u .width) (n + u .count) (eqb (u .bytes) 10)
   going-more {u} h e = more-by (unitIn m f (drop i s)) refl (in-sound m f (drop i s)) u (h .is) e
+
+-- a byte that is text as it stands
+module _ (q f : Bool) (b : ℕ) (k : plainIn q f b ≡ true) where
+  plain-no : (n : ℕ) → plainIn q f n ≡ false → b ≡ n → ⊥
+  plain-no n e z = clash (sym k ∙ ap (plainIn q f) z ∙ e)
+
+  pub plain-inside : {s : List ℕ} {i : ℕ} → Byte s i b → i < length s
+  plain-inside h = omega (arith, h .here, h .low, plain-no 256 refl)
+
+-- what the code says of a byte
+pub plain-none : (q f : Bool) {b : ℕ} (n : ℕ) → plainIn q f n ≡ false → b ≡ n → false ≡ plainIn q f b
+plain-none q f n e z = sym (ap (plainIn q f) z ∙ e)
+
+module _ (q f : Bool) {b : ℕ} (m : b ≡ 36 → ⊥) (n : b ≡ 37 → ⊥) (o : b ≡ 256 → ⊥) where
+  pub plain-heredoc : q ≡ false → bool.not f ≡ plainIn q f b
+  plain-heredoc e = sym (rw (ne-eqb b 36 m, ne-eqb b 37 n, ne-eqb b 256 o, e))
+
+  pub plain-rest : q ≡ true → (b ≡ 34 → ⊥) → bool.not (eqb b 92) ≡ plainIn q f b
+  plain-rest e h = sym (rw (ne-eqb b 36 m, ne-eqb b 37 n, ne-eqb b 256 o, ne-eqb b 34 h, e))
+
+pub plain-quote : (q f : Bool) {b : ℕ} → q ≡ true → b ≡ 34 → false ≡ plainIn q f b
+plain-quote q f e z = sym (rw (e, z))
+
+plain-fresh : (b : ℕ) → plainIn false true b ≡ false
+plain-fresh b = go (eqb b 36 || eqb b 37 || eqb b 256)
+  where
+    go : (x : Bool) → cond x false false ≡ false
+    go true = refl
+    go false = refl
+
+plain-unit : (q f : Bool) (s : List ℕ) (i d e : ℕ) → i < length s → plainIn q f (byteAt s i) ≡ true → unitIn (modeOf s q d e) f (drop i s) ≡ plain (byteAt s i)
+unfolding unit
+plain-unit true f s i d e h k =
+    rw (
+      next s i h,
+      ne-eqb (byteAt s i) 36 (plain-no true f (byteAt s i) k 36 refl),
+      ne-eqb (byteAt s i) 37 (plain-no true f (byteAt s i) k 37 refl),
+      ne-eqb (byteAt s i) 34 (plain-no true f (byteAt s i) k 34 refl),
+      ne-eqb (byteAt s i) 92 (plain-no true f (byteAt s i) k 92 refl),
+    )
+plain-unit false false s i d e h k =
+    rw (next s i h, ne-eqb (byteAt s i) 36 (plain-no false false (byteAt s i) k 36 refl), ne-eqb (byteAt s i) 37 (plain-no false false (byteAt s i) k 37 refl))
+plain-unit false true s i d e h k = clash (sym k ∙ plain-fresh (byteAt s i))
+
+pub going-plain : {s : List ℕ} {p i n b : ℕ} (d e : ℕ) (q f : Bool) → Going (modeOf s q d e) s p i n f → Byte s i b → plainIn q f b ≡ true → Going (modeOf s q d e) s p (i + 1) (n + 1) (eqb b 10)
+going-plain {s} {p} {i} {n} {b} d e q f g h k =
+    let v = plain-unit q f s i d e (plain-inside q f b k h) (subst (λ (x : ℕ). plainIn q f x ≡ true) (h .is) k) in
+    let w = more-by g (plain (byteAt s i)) v (subst (Sound (drop i s)) v (in-sound (modeOf s q d e) f (drop i s))) (pieceOf (plain (byteAt s i))) refl (λ z. omega arith) in
+    subst (λ (x : ℕ). Going (modeOf s q d e) s p (i + 1) (n + 1) (eqb x 10)) (sym (pack-one (byteAt s i)) ∙ sym (h .is)) w

@@ -151,6 +151,17 @@ module _ (s : List ℕ) (p : ℕ) where
           widths zero = ap endsAt (omega arith)
           widths (suc k) = rw (lt-ltb 0 (suc k) (omega arith))
 
+  -- behind the slash no byte starts trivia
+  pub item-beyond : (lines : Bool) → 47 < byteAt s p → endsAt p ≡ placed p (item lines (drop p s))
+  item-beyond true h = ap endsAt (omega arith) ∙ item-ending true refl {w = 0} unspaced (λ z. omega arith) (λ z. omega arith) (sym (ending-none s p (λ z. omega arith) (λ z. omega arith)))
+    where
+      unspaced : isSpace (byteAt s p) ≡ false
+      unspaced = rw (ne-eqb (byteAt s p) 32 (λ z. omega arith), ne-eqb (byteAt s p) 9 (λ z. omega arith))
+  item-beyond false h = sym (ap (placed p) (item-single false refl unspaced (λ z. omega arith)))
+    where
+      unspaced : isSpace (byteAt s p) ≡ false
+      unspaced = rw (ne-eqb (byteAt s p) 32 (λ z. omega arith), ne-eqb (byteAt s p) 9 (λ z. omega arith))
+
   -- what ends an object's item, byte by byte
   stop-is : stopTo s p
       ≡ cond (eqb (byteAt s p) 44) (stopAt 1 (p + 1))

@@ -1,4 +1,5 @@
 // Literal text, quoted and in heredocs.
+use crate::bytes::NOTHING;
 use crate::bytes::byte_at;
 use crate::bytes::is_digit;
 use crate::bytes::within;
@@ -13,7 +14,7 @@ ghost use mathlib.Core.List.{[], _∷_};
 ghost use mathlib.Core.Bool.{true};
 ghost use Rattle.lexis.specs.Bytes.{byteAt};
 ghost use Rattle.lexis.specs.Utf8.{isScalar};
-ghost use Rattle.lexis.specs.String.{pieceIs, pieceOf, is, not, scalarOf, scalar, escape, marker, unit, unitIn, modeOf, textAt, Hex, UnitHere, RunHere, unpacked, Wrote};
+ghost use Rattle.lexis.specs.String.{pieceIs, pieceOf, is, not, scalarOf, scalar, escape, marker, unit, unitIn, plainIn, modeOf, textAt, Hex, UnitHere, RunHere, unpacked, Wrote};
 
 // Why a run of literal text ends, or no unit stands at a place.
 pub enum Why {
@@ -244,6 +245,28 @@ fn unit_in(s: &[u8], p: usize, quoted: bool, fresh: bool, d: usize, e: usize) ->
     }
 }
 
+// Whether b is text as it stands; fresh: a line starts with it. Most bytes are, so a run asks this first.
+fn is_plain(b: u16, quoted: bool, fresh: bool) -> bool
+    ensures { λ r. ⌜ r ≡ plainIn quoted fresh b ⌝ }
+{
+    if b == 36 {
+        return false;
+    }
+    if b == 37 {
+        return false;
+    }
+    if b == NOTHING {
+        return false;
+    }
+    if !quoted {
+        return !fresh;
+    }
+    if b == 34 {
+        return false;
+    }
+    b != 92
+}
+
 // The longest run of literal text from p, in quoted text, or in a heredoc whose delimiter stands in the source from d to e.
 pub fn run_at(s: &[u8], p: usize, quoted: bool, d: usize, e: usize) -> Run
     ensures { λ r. ⌜ RunHere (modeOf (now (s .entry)) quoted d e) (now (s .entry)) p r ⌝ }
@@ -252,6 +275,13 @@ pub fn run_at(s: &[u8], p: usize, quoted: bool, d: usize, e: usize) -> Run
     let mut n = 0;
     let mut fresh = starts_line(s, p);
     loop {
+        let b = byte_at(s, i);
+        if is_plain(b, quoted, fresh) {
+            i += 1;
+            n += 1;
+            fresh = b == 10;
+            continue;
+        }
         let u = unit_in(s, i, quoted, fresh, d, e);
         let w = u.width;
         if w == 0 {

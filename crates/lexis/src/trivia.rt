@@ -128,6 +128,13 @@ fn item_at(s: &[u8], p: usize, lines: bool) -> Gap
     ensures { λ r. ⌜ Itemed lines (now (s .entry)) p r ⌝ }
 {
     let b = byte_at(s, p);
+    // letters, digits and most marks are behind the slash: no trivia starts with one
+    if 47 < b {
+        return Gap {
+            at: p,
+            unclosed: false,
+        };
+    }
     if is_space(b) {
         return Gap {
             at: p + 1,
