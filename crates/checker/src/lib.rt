@@ -9,6 +9,7 @@ ghost use Rattle.checker.specs.Check.{Rooted, Walking, Checks};
 mod family;
 mod kinds;
 mod lay;
+mod lone;
 mod moves;
 mod node;
 mod pass;
