@@ -13,6 +13,7 @@ mod lone;
 mod moves;
 mod node;
 mod pass;
+mod precedence;
 mod program;
 mod row;
 mod rows;

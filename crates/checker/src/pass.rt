@@ -1,8 +1,8 @@
 // A child of a node, in its place.
+use crate::precedence::groups;
 use crate::program::child;
 use crate::program::fits;
 use crate::rows::wide;
-use grammar::kinds::tight;
 use lexis::keys::met_before;
 ghost use mathlib.Core.Path.{_≡_};
 ghost use mathlib.Core.Bool.{cond};
@@ -41,7 +41,7 @@ fn suits(table: &[u16], j: usize, at: usize, bound: usize, want: u8) -> bool
         return false;
     }
     let kind = table[7 * j];
-    if tight(kind) as usize <= bound {
+    if !groups(bound, kind, true) {
         return false;
     }
     fits(want, kind)
