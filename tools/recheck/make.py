@@ -364,10 +364,30 @@ def written(draw):
             yield source, new, b"", 0
         for x in (0, 1, last - 1, last + 1, 65535):
             yield source, left[:-3] + [x] + left[-2:], b"", 0
-    # Items that are made up inside a comment behind the first key.
+    # Items that are made up inside comments behind a key.
     for n in (1, 2, 300):
-        source = b"{" + b",".join([b"k/*"] * n) + b"*/.b=1}"
-        yield source, flat([(13, 0, 4 * i + 1, 4 * i + 4, 1, 0, 0) for i in range(n)] + [(OBJECT, 0, 0, len(source), n + 1, 0, 0)]), b"", 0
+        for source in comments(n):
+            yield source, made_up(source), b"", 0
+
+
+def comments(n):
+    """Keys inside one comment, which nothing closes, or which has more comments behind it; and in each comment of a chain, of which the last two share bytes."""
+    one = b",".join([b"k/*"] * n)
+    yield b"{" + one + b"}"
+    for end in (b"*/.b=1}", b"*/=1}"):
+        yield b"{" + one + end
+        yield b"{" + one + b"*/" + b"/**/" * n + b"/*" + end
+        yield b"{k/*" + b",k/**//*" * n + end
+        yield b"{k/*" + b",k/*/ /*" * n + end
+        yield b"{k/*" + b",k/*/ /*/ /*" * n + end
+
+
+def made_up(source):
+    """An object with an item from each key to the comma behind it."""
+    keys = [i for i, b in enumerate(source) if b == ord("k")]
+    ends = [source.find(b",", i) for i in keys]
+    rows = [(13, 0, i, e if e > 0 else i + 3, 1, 0, 0) for i, e in zip(keys, ends)]
+    return flat(rows + [(OBJECT, 0, 0, len(source), len(rows) + 1, 0, 0)])
 
 
 def packed(source, table, text):

@@ -27,6 +27,8 @@ use Rattle.checker.specs.Rows.{rowAt, recAt}
 use Rattle.checker.specs.Family.{Chain}
 use Rattle.checker.specs.Program.{codeIn, moveIn, classIn, Codes, All, beginIn, laidOut, right-coded, instructions, ahead, all-ahead, fitting, all-fitting, isEntry, itemed, all-itemed}
 use Rattle.checker.specs.Leaf.{InstrAt, GoneAt}
+use Rattle.checker.specs.declared.lone.Lone.{Lone}
+use Rattle.checker.specs.Lone.{AloneAt}
 use Rattle.checker.specs.Lay.{coded, depthsAt, Both, KeysOf, Passing, PassedBy, Filled, Over, EndsAt, Laying, Children, LaidBy}
 use Rattle.checker.proofs.Overs.{AtKid, over-fin, over-kid, over-move, over-yes, over-no, over-rep, over-end}
 
@@ -642,8 +644,8 @@ module _ (s t : List ℕ) (i left : ℕ) (lines : Bool) where
         child-no deep h (x .fit) (x .itm) (w .lay) (x .begins) z
 
     -- what `pass` asks for
-    pub turn-passing : {K₀ : List ℕ} → Laying t i m D₀ K₀ j₀ left → length K ≡ length K₀ → Passing t i m D K j n left
-    turn-passing a e = record {
+    pub turn-passing : {K₀ : List ℕ} {c at : ℕ} {r : Lone} → Laying t i m D₀ K₀ j₀ left → length K ≡ length K₀ → AloneAt s c at r → Passing s t i m D K j n c left at (r .yes)
+    turn-passing a e h = record {
       within = a .within;
       linked = (λ l. next-of m i (w .js) j (w .chain) l .far, chain-le m i (w .js) j (w .chain));
       marked = a .marked;
@@ -651,6 +653,7 @@ module _ (s t : List ℕ) (i left : ℕ) (lines : Bool) where
       keyed = omega (arith, a .keyed, e);
       fewer = w .few;
       few = a .few;
+      told = h .yes;
     }
 
   -- ---- as the code says it

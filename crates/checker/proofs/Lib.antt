@@ -1,5 +1,7 @@
 mod Families
 mod Overs
+pub mod Precedences
+pub mod Lones
 mod Lays
 mod Passes
 mod Strands

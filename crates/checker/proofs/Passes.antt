@@ -135,6 +135,10 @@ module _ (s K : List ℕ) (n p w : ℕ) where
         ∙ ap (λ (o : ℕ). sameKey s o y || among s (lones s (starts ks)) y) (sym h) ∙ sym (among-cons s (lones s (starts ks)) (x .start) y) ∙ ap (λ (o : List ℕ). among s o y) (sym (lones-yes s x ks (ap (lone s) h ∙ e)));
   }
 
+-- an item's key is looked at where its place is
+pub meet-told : (s : List ℕ) {t : List ℕ} {j at n w c left : ℕ} {lines a r : Bool} {y : Child} → (classIn c ≡ entry → a ≡ lone s at) → ChildAt c left lines y → SuitsAt t j at n w r → r ≡ true → y .want ≡ 4 → a ≡ lone s ((rowAt t j) .start)
+meet-told s f h g e z = f (h .item z) ∙ ap (lone s) (sym (g .start e))
+
 -- ---- a depth in one number
 
 pub coded-packed : (v n : ℕ) (l : Bool) → v ≡ n + n + cond l 1 0 → coded v ≡ depth n l

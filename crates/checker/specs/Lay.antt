@@ -59,7 +59,7 @@ abbrev pub noPass : ℕ → Passed
 noPass n = record { good = false; end = 0; next = 0; keys = n }
 
 -- what `pass` asks for
-pub record Passing (t : List ℕ) (i : ℕ) (m D K : List ℕ) (j n left : ℕ) : Type 0 where
+pub record Passing (s t : List ℕ) (i : ℕ) (m D K : List ℕ) (j n c left at : ℕ) (alone : Bool) : Type 0 where
   pub within : 7 * i + 7 ≤ length t
   pub linked : (j < i → getD m j 0 ≤ i) × (j ≤ i)
   pub marked : i < length m
@@ -67,6 +67,7 @@ pub record Passing (t : List ℕ) (i : ℕ) (m D K : List ℕ) (j n left : ℕ) 
   pub keyed : i < length K
   pub fewer : n ≤ j
   pub few : left ≤ 127
+  pub told : classIn c ≡ entry → alone ≡ lone s at
 
 -- `r` says whether the row j is a child of the class c at the place `at`; then its depth is put down
 pub record PassedBy (s t : List ℕ) (i : ℕ) (m D D′ K K′ : List ℕ) (j n c left : ℕ) (lines : Bool) (at : ℕ) (r : Passed) : Type 0 where

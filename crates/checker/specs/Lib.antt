@@ -3,6 +3,8 @@ pub mod Rows
 pub mod Leaf
 pub mod LeafMore
 pub mod Family
+pub mod Precedence
+pub mod Lone
 pub mod Lay
 pub mod Texts
 pub mod Node

@@ -7,59 +7,57 @@ ghost use mathlib.Core.Path.{_≡_};
 ghost use Rattle.grammar.specs.Kinds.{holdOf};
 ghost use Rattle.checker.specs.Leaf.{isGrown, FirstAt};
 
-// By kind, the tightest operator that may follow it: none after an item, a condition or a conditional, no traversal after a unary operator.
-const HOLDS: [u8; 43] = [
-    0,
-    9,
-    9,
-    9,
-    9,
-    9,
-    9,
-    9,
-    9,
-    9,
-    9,
-    9,
-    9,
-    0,
-    9,
-    9,
-    9,
-    9,
-    9,
-    9,
-    0,
-    0,
-    7,
-    7,
-    7,
-    7,
-    7,
-    6,
-    6,
-    5,
-    5,
-    5,
-    5,
-    4,
-    4,
-    3,
-    2,
-    8,
-    9,
-    9,
-    9,
-    9,
-    9,
-];
-
-// How tight an operator may be that follows a kind; 0 for what is no kind.
+// The tightest operator that may follow a kind: none after an item, a condition or a conditional, no traversal after a unary operator; 0 for what is no kind.
+// Long, as a line for each kind is a table that stays.
 pub fn hold(kind: u16) -> u8
     ensures { λ r. ⌜ r ≡ holdOf kind ⌝ }
 {
-    let k = kind as usize;
-    if k < 43 { HOLDS[k] } else { 0 }
+    match kind {
+        0 => 0,
+        1 => 9,
+        2 => 9,
+        3 => 9,
+        4 => 9,
+        5 => 9,
+        6 => 9,
+        7 => 9,
+        8 => 9,
+        9 => 9,
+        10 => 9,
+        11 => 9,
+        12 => 9,
+        13 => 0,
+        14 => 9,
+        15 => 9,
+        16 => 9,
+        17 => 9,
+        18 => 9,
+        19 => 9,
+        20 => 0,
+        21 => 0,
+        22 => 7,
+        23 => 7,
+        24 => 7,
+        25 => 7,
+        26 => 7,
+        27 => 6,
+        28 => 6,
+        29 => 5,
+        30 => 5,
+        31 => 5,
+        32 => 5,
+        33 => 4,
+        34 => 4,
+        35 => 3,
+        36 => 2,
+        37 => 8,
+        38 => 9,
+        39 => 9,
+        40 => 9,
+        41 => 9,
+        42 => 9,
+        _ => 0,
+    }
 }
 
 // Whether a kind grows from an operand: the conditional, an operator or a traversal.

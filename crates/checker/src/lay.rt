@@ -1,4 +1,6 @@
 // A layout, laid over the children of a node.
+use crate::lone::Memo;
+use crate::lone::alone;
 use crate::moves::go;
 use crate::pass::pass;
 use crate::program::Instr;
@@ -43,12 +45,18 @@ pub fn lay(
     let mut q = p;
     let mut j = first;
     let mut n = 0;
+    let mut memo = Memo {
+        from: 1,
+        to: 0,
+        yes: false,
+    };
     loop {
         let x = instr(pc);
         if x.op == Instr::FIN {
             return ends(table, i, j, q, x.arg);
         }
         if x.op == Instr::KID {
+            let key = alone(s, x.class, q, memo);
             let c = pass(
                 s,
                 table,
@@ -62,6 +70,7 @@ pub fn lay(
                 left,
                 lines,
                 q,
+                key.yes,
             );
             if !c.good {
                 return false;
@@ -69,6 +78,7 @@ pub fn lay(
             q = c.end;
             j = c.next;
             n = c.keys;
+            memo = key.memo;
             pc = pc + 1;
             continue;
         }
@@ -81,6 +91,7 @@ pub fn lay(
             continue;
         }
         if x.op == Instr::REP {
+            let key = alone(s, x.class, w.at, memo);
             let c = pass(
                 s,
                 table,
@@ -94,6 +105,7 @@ pub fn lay(
                 left,
                 lines,
                 w.at,
+                key.yes,
             );
             if !c.good {
                 return false;
@@ -101,6 +113,7 @@ pub fn lay(
             q = c.end;
             j = c.next;
             n = c.keys;
+            memo = key.memo;
             continue;
         }
         q = w.at;

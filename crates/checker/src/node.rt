@@ -1,9 +1,9 @@
 // The rule at one row.
 use crate::family::family;
 use crate::kinds::first_at;
-use crate::kinds::hold;
 use crate::kinds::is_grown;
 use crate::lay::lay;
+use crate::precedence::groups;
 use crate::program::fits;
 use crate::rows::wide;
 use crate::text::string;
@@ -136,10 +136,11 @@ fn left_at(s: &[u8], table: &[u16], i: usize, l: usize, lines: bool) -> bool
         return false;
     }
     let kind = table[7 * i];
-    if hold(table[7 * l]) < tight(kind) {
+    let operand = table[7 * l];
+    if !groups(tight(kind) as usize, operand, false) {
         return false;
     }
-    if !fits(EXPRESSION, table[7 * l]) {
+    if !fits(EXPRESSION, operand) {
         return false;
     }
     follow(s, wide(table[7 * l + 3]), lines) == kind

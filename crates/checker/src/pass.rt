@@ -1,14 +1,14 @@
 // A child of a node, in its place.
+use crate::precedence::groups;
 use crate::program::child;
 use crate::program::fits;
 use crate::rows::wide;
-use grammar::kinds::tight;
-use grammar::picks::lone;
 use lexis::keys::met_before;
 ghost use mathlib.Core.Path.{_≡_};
 ghost use mathlib.Core.Bool.{cond};
 ghost use Prim.Native.Nat.{_+_, _*_, _≤_, _<_};
 ghost use lib.ListN.{length};
+ghost use Rattle.grammar.specs.Moves.{lone};
 ghost use Rattle.checker.specs.Lay.{SuitsAt, MetAt, noPass, Passing, PassedBy};
 
 // What is wanted where an item stands.
@@ -41,15 +41,15 @@ fn suits(table: &[u16], j: usize, at: usize, bound: usize, want: u8) -> bool
         return false;
     }
     let kind = table[7 * j];
-    if tight(kind) as usize <= bound {
+    if !groups(bound, kind, true) {
         return false;
     }
     fits(want, kind)
 }
 
-// Of an item that starts at p: whether its key is one of the first n of `keys`. Where it may be compared it is kept there.
-fn meet(s: &[u8], keys: &mut [u16], n: usize, p: u16, want: u8) -> Met
-    requires { ⌜ n < length (now keys) ⌝ }
+// Of an item that starts at p: whether its key is one of the first n of `keys`. Where it stands alone, and so may be compared, it is kept there.
+fn meet(s: &[u8], keys: &mut [u16], n: usize, p: u16, want: u8, alone: bool) -> Met
+    requires { ⌜ (n < length (now keys)) × (want ≡ 4 → alone ≡ lone (now s) p) ⌝ }
     ensures { λ r. ⌜ MetAt (now (s .entry)) (now (keys .entry)) (now (keys .exit)) n p want r ⌝ }
 {
     if want != ITEM {
@@ -58,13 +58,13 @@ fn meet(s: &[u8], keys: &mut [u16], n: usize, p: u16, want: u8) -> Met
             keys: n,
         };
     }
-    let a = wide(p);
-    if !lone(s, a) {
+    if !alone {
         return Met {
             met: false,
             keys: n,
         };
     }
+    let a = wide(p);
     if met_before(s, keys, 0, n, a) {
         return Met { met: true, keys: n };
     }
@@ -98,7 +98,8 @@ fn missed(n: usize) -> Passed
     }
 }
 
-// The j-th row as a child of a class at a place, in the node of the i-th row, after n keys. Where it is right its depth is put down.
+// The j-th row as a child of a class at a place, in the node of the i-th row, after n keys; `alone` says of an item there whether its key stands alone.
+// Where it is right its depth is put down.
 pub fn pass(
     s: &[u8],
     table: &[u16],
@@ -112,8 +113,9 @@ pub fn pass(
     left: usize,
     lines: bool,
     at: usize,
+    alone: bool,
 ) -> Passed
-    requires { ⌜ Passing (now table) i (now marks) (now depths) (now keys) j n left ⌝ }
+    requires { ⌜ Passing (now s) (now table) i (now marks) (now depths) (now keys) j n class left at alone ⌝ }
     ensures { λ r. ⌜ PassedBy (now (s .entry)) (now (table .entry)) i (now (marks .entry)) (now (depths .entry)) (now (depths .exit)) (now (keys .entry)) (now (keys .exit)) j n class left lines at r ⌝ }
 {
     if j == i {
@@ -123,7 +125,7 @@ pub fn pass(
     if !suits(table, j, at, y.bound, y.want) {
         return missed(n);
     }
-    let k = meet(s, keys, n, table[7 * j + 2], y.want);
+    let k = meet(s, keys, n, table[7 * j + 2], y.want, alone);
     if k.met {
         return missed(n);
     }

@@ -19,82 +19,6 @@ impl Want {
     pub const KEY: u8 = 5;
 }
 
-// Operation, argument, class and where to go on, a byte each, the first lowest.
-const OWN: [u32; 25] = [
-    51202,
-    1794,
-    393219,
-    1,
-    51458,
-    1794,
-    393219,
-    1,
-    131075,
-    4043360772,
-    1794,
-    196611,
-    1,
-    51970,
-    1794,
-    196611,
-    257,
-    17410,
-    4160768260,
-    1,
-    4610,
-    458755,
-    4211592197,
-    52482,
-    1,
-];
-
-// By kind, what it is wanted as; 6 for the kinds that are children of no layout of the program.
-const WANTS: [u8; 43] = [
-    6,
-    0,
-    0,
-    0,
-    0,
-    0,
-    0,
-    0,
-    0,
-    6,
-    6,
-    0,
-    0,
-    4,
-    5,
-    0,
-    0,
-    1,
-    0,
-    0,
-    3,
-    0,
-    0,
-    0,
-    0,
-    0,
-    0,
-    0,
-    0,
-    0,
-    0,
-    0,
-    0,
-    0,
-    0,
-    0,
-    0,
-    0,
-    2,
-    2,
-    2,
-    2,
-    2,
-];
-
 // Where the program of a kind starts; 0 for the kinds that have none.
 pub fn begin(kind: u16) -> usize
     ensures { λ r. ⌜ r ≡ beginIn kind ⌝ }
@@ -109,11 +33,38 @@ pub fn begin(kind: u16) -> usize
     }
 }
 
-// The k-th instruction of its own, as one number; 0 past the last.
+// The k-th instruction of its own: operation, argument, class and where to go on, a byte each, the first lowest; 0 past the last.
 fn word(k: usize) -> u32
     ensures { λ r. ⌜ r ≡ wordIn k ⌝ }
 {
-    if k < 25 { OWN[k] } else { 0 }
+    match k {
+        0 => 51202,
+        1 => 1794,
+        2 => 393219,
+        3 => 1,
+        4 => 51458,
+        5 => 1794,
+        6 => 393219,
+        7 => 1,
+        8 => 131075,
+        9 => 4043360772,
+        10 => 1794,
+        11 => 196611,
+        12 => 1,
+        13 => 51970,
+        14 => 1794,
+        15 => 196611,
+        16 => 257,
+        17 => 17410,
+        18 => 4160768260,
+        19 => 1,
+        20 => 4610,
+        21 => 458755,
+        22 => 4211592197,
+        23 => 52482,
+        24 => 1,
+        _ => 0,
+    }
 }
 
 // The instruction at pc; all 0 past the program's end.
@@ -188,12 +139,56 @@ pub fn child(class: u8, left: usize, lines: bool) -> Child
     }
 }
 
-// What a kind is wanted as; 6 for what is no child of the program's layouts.
+// What a kind is wanted as; 6 for what is no child of the program's layouts. Long, as a line for each kind is a table that stays.
 fn wanted(kind: u16) -> u8
     ensures { λ r. ⌜ r ≡ wantedAs kind ⌝ }
 {
-    let k = kind as usize;
-    if k < 43 { WANTS[k] } else { 6 }
+    match kind {
+        0 => 6,
+        1 => 0,
+        2 => 0,
+        3 => 0,
+        4 => 0,
+        5 => 0,
+        6 => 0,
+        7 => 0,
+        8 => 0,
+        9 => 6,
+        10 => 6,
+        11 => 0,
+        12 => 0,
+        13 => 4,
+        14 => 5,
+        15 => 0,
+        16 => 0,
+        17 => 1,
+        18 => 0,
+        19 => 0,
+        20 => 3,
+        21 => 0,
+        22 => 0,
+        23 => 0,
+        24 => 0,
+        25 => 0,
+        26 => 0,
+        27 => 0,
+        28 => 0,
+        29 => 0,
+        30 => 0,
+        31 => 0,
+        32 => 0,
+        33 => 0,
+        34 => 0,
+        35 => 0,
+        36 => 0,
+        37 => 0,
+        38 => 2,
+        39 => 2,
+        40 => 2,
+        41 => 2,
+        42 => 2,
+        _ => 6,
+    }
 }
 
 // Whether a kind may stand where something is wanted.

@@ -5,22 +5,25 @@ use mathlib.Core.Path.{_≡_, refl, sym, ap, subst, _∙_}
 use lib.ListN.{length}
 use borrow.Author.Tests.{not-true, not-false}
 use Rattle.checker.specs.Lay.{Laying}
+use Rattle.checker.specs.Lone.{Known}
+use Rattle.checker.proofs.Lones.{known-nothing}
 use Rattle.checker.proofs.Lays.{Turn, known, turn-start, turn-within, turn-passing, do-fin, do-kid, do-kid-no, do-stop, do-other, do-later, do-rep, do-rep-no, do-on, do-up}
 use Rattle.checker.proofs.lay.lay.Statement.{statement}
 use Rattle.checker.proofs.lay.lay.Tie as tie
 use Rattle.checker.proofs.lay.lay.Reads as reads
 use Rattle.checker.proofs.lay.lay.Lts as lts
 use Rattle.checker.proofs.lay.ends.Reads as ends-reads
+use Rattle.checker.proofs.lone.alone.Reads as alone-reads
 use Rattle.checker.proofs.moves.go.Reads as go-reads
 use Rattle.checker.proofs.pass.pass.Reads as pass-reads
 use Rattle.checker.proofs.program.begin.Reads as begin-reads
 use Rattle.checker.proofs.program.instr.Reads as instr-reads
 
 abbrev Inv-loop : tie.InvT-loop
-Inv-loop s table i marks depths₀ keys₀ first p left lines pc₀ q₀ j₀ n₀ depths keys pc q j n = Laying table i marks depths₀ keys₀ first left × (length keys ≡ length keys₀) × Turn s table i left lines marks depths₀ depths keys first p pc q j n
+Inv-loop s table i marks depths₀ keys₀ first p left lines pc₀ q₀ j₀ n₀ memo₀ depths keys pc q j n memo = Laying table i marks depths₀ keys₀ first left × (length keys ≡ length keys₀) × Turn s table i left lines marks depths₀ depths keys first p pc q j n × Known s memo
 
 abbrev μ-loop : tie.MeasureT-loop
-μ-loop s table i marks depths₀ keys₀ first p left lines pc₀ q₀ j₀ n₀ depths keys pc q j n = 256 * (i - j) + (253 - pc)
+μ-loop s table i marks depths₀ keys₀ first p left lines pc₀ q₀ j₀ n₀ memo₀ depths keys pc q j n memo = 256 * (i - j) + (253 - pc)
 
 -- src/lay.rt:42:30
 mul-begin : tie.Need-mul-begin Inv-loop μ-loop
@@ -40,7 +43,7 @@ begin-requires c κs = search needs
 
 -- src/lay.rt:46:5
 loop-holds : tie.Need-loop-holds Inv-loop μ-loop
-loop-holds c = ((c .before .before .before .before .before .before .before .pre), refl, turn-start _ _ _ _ _ (known _ ((c .before .before .before .before .before .before .before .pre .known))) ((c .begin .ensures)) ((c .before .before .before .before .before .before .before .pre .js)) ((c .before .before .before .before .before .before .before .pre .chain)))
+loop-holds c = ((c .before .before .before .before .before .before .before .pre), refl, turn-start _ _ _ _ _ (known _ ((c .before .before .before .before .before .before .before .pre .known))) ((c .begin .ensures)) ((c .before .before .before .before .before .before .before .pre .js)) ((c .before .before .before .before .before .before .before .pre .chain)), known-nothing _ _)
 
 -- src/lay.rt:47:13
 instr-requires : tie.Need-instr-requires Inv-loop μ-loop
@@ -62,33 +65,36 @@ same-length-2 c = (c .before .before .before .before .loop .inv .1)
 returns : tie.Need-returns Inv-loop μ-loop
 returns c = do-fin _ _ _ _ _ ((c .before .before .before .before .loop .inv .2)) ((c .before .before .before .instr .ensures)) _ ((c .before .if1 .taken)) ((c .ends .ensures))
 
+alone-requires : tie.Need-alone-requires Inv-loop μ-loop
+alone-requires c κs = (c .before .before .before .before .before .loop .inv .3)
+
 -- src/lay.rt:52:17
 pass-requires : tie.Need-pass-requires Inv-loop μ-loop
-pass-requires c κs = turn-passing _ _ _ _ _ ((c .before .before .before .before .before .before .before .loop .inv .2)) ((c .before .before .before .before .before .before .before .loop .inv .0)) ((c .before .before .before .before .before .before .before .loop .inv .1))
+pass-requires c κs = turn-passing _ _ _ _ _ ((c .before .before .before .before .before .before .before .before .loop .inv .2)) ((c .before .before .before .before .before .before .before .before .loop .inv .0)) ((c .before .before .before .before .before .before .before .before .loop .inv .1)) (c .before .before .alone .ensures)
 
 -- src/lay.rt:56:17
 same-length-3 : tie.Need-same-length-3 Inv-loop μ-loop
-same-length-3 c = omega (arith, (c .before .before .before .before .before .before .pass .ensures .long), (c .before .before .before .before .before .before .before .before .before .before .before .before .before .before .loop .inv .2 .long))
+same-length-3 c = omega (arith, (c .before .before .before .before .before .before .pass .ensures .long), (c .before .before .before .before .before .before .before .before .before .before .before .before .before .before .before .loop .inv .2 .long))
 
 -- src/lay.rt:56:17
 same-length-4 : tie.Need-same-length-4 Inv-loop μ-loop
-same-length-4 c = omega (arith, (c .before .before .before .before .before .before .pass .ensures .room), (c .before .before .before .before .before .before .before .before .before .before .before .before .before .before .loop .inv .1))
+same-length-4 c = omega (arith, (c .before .before .before .before .before .before .pass .ensures .room), (c .before .before .before .before .before .before .before .before .before .before .before .before .before .before .before .loop .inv .1))
 
 -- src/lay.rt:56:17
 returns-2 : tie.Need-returns-2 Inv-loop μ-loop
-returns-2 c = do-kid-no _ _ _ _ _ ((c .before .before .before .before .before .before .before .before .before .before .before .before .before .before .loop .inv .2)) ((c .before .before .before .before .before .before .before .before .before .before .before .before .before .instr .ensures)) (omega (arith, (c .before .before .before .before .before .before .before .before .before .before .before .before .before .before .loop .inv .0 .deep), (c .before .before .before .before .before .before .before .before .before .before .before .before .before .before .loop .inv .2 .long))) ((c .before .before .before .before .before .before .before .before .before .if2 .taken)) ((c .before .before .before .before .before .before .pass .ensures)) (not-true _ ((c .if3 .taken)))
+returns-2 c = do-kid-no _ _ _ _ _ ((c .before .before .before .before .before .before .before .before .before .before .before .before .before .before .before .loop .inv .2)) ((c .before .before .before .before .before .before .before .before .before .before .before .before .before .before .instr .ensures)) (omega (arith, (c .before .before .before .before .before .before .before .before .before .before .before .before .before .before .before .loop .inv .0 .deep), (c .before .before .before .before .before .before .before .before .before .before .before .before .before .before .before .loop .inv .2 .long))) ((c .before .before .before .before .before .before .before .before .before .before .if2 .taken)) ((c .before .before .before .before .before .before .pass .ensures)) (not-true _ ((c .if3 .taken)))
 
 -- src/lay.rt:61:18
 add-pc : tie.Need-add-pc Inv-loop μ-loop
-add-pc c = omega (arith, turn-within _ _ _ _ _ ((c .before .before .before .before .before .before .before .before .before .before .before .before .before .before .loop .inv .2)))
+add-pc c = omega (arith, turn-within _ _ _ _ _ ((c .before .before .before .before .before .before .before .before .before .before .before .before .before .before .before .before .loop .inv .2)))
 
 -- src/lay.rt:46:5
 loop-less : tie.Need-loop-less Inv-loop μ-loop
-loop-less c = let u = do-up _ _ _ _ _ ((c .before .before .before .before .before .before .before .before .before .before .before .before .before .before .loop .inv .2)) ((c .before .before .before .before .before .before .before .before .before .before .before .before .before .instr .ensures)) ((c .before .before .before .before .before .before .pass .ensures)) (not-false _ ((c .if3 .left))) in omega (arith, u .0, u .1)
+loop-less c = let u = do-up _ _ _ _ _ ((c .before .before .before .before .before .before .before .before .before .before .before .before .before .before .before .before .loop .inv .2)) ((c .before .before .before .before .before .before .before .before .before .before .before .before .before .before .before .instr .ensures)) ((c .before .before .before .before .before .before .before .pass .ensures)) (not-false _ ((c .before .if3 .left))) in omega (arith, u .0, u .1)
 
 -- src/lay.rt:46:5
 loop-again : tie.Need-loop-again Inv-loop μ-loop
-loop-again c = ((c .before .before .before .before .before .before .before .before .before .before .before .before .before .before .loop .inv .0), (c .before .before .before .before .before .before .pass .ensures .room) ∙ (c .before .before .before .before .before .before .before .before .before .before .before .before .before .before .loop .inv .1), do-kid _ _ _ _ _ ((c .before .before .before .before .before .before .before .before .before .before .before .before .before .before .loop .inv .2)) ((c .before .before .before .before .before .before .before .before .before .before .before .before .before .instr .ensures)) (omega (arith, (c .before .before .before .before .before .before .before .before .before .before .before .before .before .before .loop .inv .0 .deep), (c .before .before .before .before .before .before .before .before .before .before .before .before .before .before .loop .inv .2 .long))) ((c .before .before .before .before .before .before .before .before .before .if2 .taken)) ((c .before .before .before .before .before .before .pass .ensures)) (not-false _ ((c .if3 .left))))
+loop-again c = ((c .before .before .before .before .before .before .before .before .before .before .before .before .before .before .before .before .loop .inv .0), (c .before .before .before .before .before .before .before .pass .ensures .room) ∙ (c .before .before .before .before .before .before .before .before .before .before .before .before .before .before .before .before .loop .inv .1), do-kid _ _ _ _ _ ((c .before .before .before .before .before .before .before .before .before .before .before .before .before .before .before .before .loop .inv .2)) ((c .before .before .before .before .before .before .before .before .before .before .before .before .before .before .before .instr .ensures)) (omega (arith, (c .before .before .before .before .before .before .before .before .before .before .before .before .before .before .before .before .loop .inv .0 .deep), (c .before .before .before .before .before .before .before .before .before .before .before .before .before .before .before .before .loop .inv .2 .long))) ((c .before .before .before .before .before .before .before .before .before .before .before .if2 .taken)) ((c .before .before .before .before .before .before .before .pass .ensures)) (not-false _ ((c .before .if3 .left))), c .before .before .before .before .before .before .before .before .before .before .alone .ensures .known)
 
 -- src/lay.rt:64:13
 go-requires : tie.Need-go-requires Inv-loop μ-loop
@@ -112,31 +118,34 @@ loop-less-2 c = omega (arith, turn-within _ _ _ _ _ ((c .before .before .before 
 
 -- src/lay.rt:46:5
 loop-again-2 : tie.Need-loop-again-2 Inv-loop μ-loop
-loop-again-2 c = ((c .before .before .before .before .before .before .before .before .before .before .loop .inv .0), (c .before .before .before .before .before .before .before .before .before .before .loop .inv .1), do-other _ _ _ _ _ ((c .before .before .before .before .before .before .before .before .before .before .loop .inv .2)) ((c .before .before .before .before .before .before .before .before .before .instr .ensures)) ((c .before .before .before .before .before .before .before .if1 .left)) ((c .if5 .left)) ((c .before .before .before .before .before .if2 .left)) ((c .before .before .before .before .go .ensures)) ((c .before .before .if4 .taken)))
+loop-again-2 c = ((c .before .before .before .before .before .before .before .before .before .before .loop .inv .0), (c .before .before .before .before .before .before .before .before .before .before .loop .inv .1), do-other _ _ _ _ _ ((c .before .before .before .before .before .before .before .before .before .before .loop .inv .2)) ((c .before .before .before .before .before .before .before .before .before .instr .ensures)) ((c .before .before .before .before .before .before .before .if1 .left)) ((c .if5 .left)) ((c .before .before .before .before .before .if2 .left)) ((c .before .before .before .before .go .ensures)) ((c .before .before .if4 .taken)), c .before .before .before .before .before .before .before .before .before .before .loop .inv .3)
+
+alone-requires-2 : tie.Need-alone-requires-2 Inv-loop μ-loop
+alone-requires-2 c κs = (c .before .before .before .before .before .before .before .before .before .before .loop .inv .3)
 
 -- src/lay.rt:73:17
 pass-requires-2 : tie.Need-pass-requires-2 Inv-loop μ-loop
-pass-requires-2 c κs = turn-passing _ _ _ _ _ ((c .before .before .before .before .before .before .before .before .before .before .before .before .loop .inv .2)) ((c .before .before .before .before .before .before .before .before .before .before .before .before .loop .inv .0)) ((c .before .before .before .before .before .before .before .before .before .before .before .before .loop .inv .1))
+pass-requires-2 c κs = turn-passing _ _ _ _ _ ((c .before .before .before .before .before .before .before .before .before .before .before .before .before .loop .inv .2)) ((c .before .before .before .before .before .before .before .before .before .before .before .before .before .loop .inv .0)) ((c .before .before .before .before .before .before .before .before .before .before .before .before .before .loop .inv .1)) (c .before .before .alone2 .ensures)
 
 -- src/lay.rt:77:17
 same-length-7 : tie.Need-same-length-7 Inv-loop μ-loop
-same-length-7 c = omega (arith, (c .before .before .before .before .before .before .pass2 .ensures .long), (c .before .before .before .before .before .before .before .before .before .before .before .before .before .before .before .before .before .before .before .loop .inv .2 .long))
+same-length-7 c = omega (arith, (c .before .before .before .before .before .before .pass2 .ensures .long), (c .before .before .before .before .before .before .before .before .before .before .before .before .before .before .before .before .before .before .before .before .loop .inv .2 .long))
 
 -- src/lay.rt:77:17
 same-length-8 : tie.Need-same-length-8 Inv-loop μ-loop
-same-length-8 c = omega (arith, (c .before .before .before .before .before .before .pass2 .ensures .room), (c .before .before .before .before .before .before .before .before .before .before .before .before .before .before .before .before .before .before .before .loop .inv .1))
+same-length-8 c = omega (arith, (c .before .before .before .before .before .before .pass2 .ensures .room), (c .before .before .before .before .before .before .before .before .before .before .before .before .before .before .before .before .before .before .before .before .loop .inv .1))
 
 -- src/lay.rt:77:17
 returns-4 : tie.Need-returns-4 Inv-loop μ-loop
-returns-4 c = do-rep-no _ _ _ _ _ ((c .before .before .before .before .before .before .before .before .before .before .before .before .before .before .before .before .before .before .before .loop .inv .2)) ((c .before .before .before .before .before .before .before .before .before .before .before .before .before .before .before .before .before .before .instr .ensures)) (omega (arith, (c .before .before .before .before .before .before .before .before .before .before .before .before .before .before .before .before .before .before .before .loop .inv .0 .deep), (c .before .before .before .before .before .before .before .before .before .before .before .before .before .before .before .before .before .before .before .loop .inv .2 .long))) ((c .before .before .before .before .before .before .before .before .before .if6 .taken)) ((c .before .before .before .before .before .before .before .before .before .before .before .before .before .go .ensures)) ((c .before .before .before .before .before .before .before .before .before .before .before .if4 .left)) ((c .before .before .before .before .before .before .pass2 .ensures)) (not-true _ ((c .if7 .taken)))
+returns-4 c = do-rep-no _ _ _ _ _ ((c .before .before .before .before .before .before .before .before .before .before .before .before .before .before .before .before .before .before .before .before .loop .inv .2)) ((c .before .before .before .before .before .before .before .before .before .before .before .before .before .before .before .before .before .before .before .instr .ensures)) (omega (arith, (c .before .before .before .before .before .before .before .before .before .before .before .before .before .before .before .before .before .before .before .before .loop .inv .0 .deep), (c .before .before .before .before .before .before .before .before .before .before .before .before .before .before .before .before .before .before .before .before .loop .inv .2 .long))) ((c .before .before .before .before .before .before .before .before .before .before .if6 .taken)) ((c .before .before .before .before .before .before .before .before .before .before .before .before .before .before .go .ensures)) ((c .before .before .before .before .before .before .before .before .before .before .before .before .if4 .left)) ((c .before .before .before .before .before .before .pass2 .ensures)) (not-true _ ((c .if7 .taken)))
 
 -- src/lay.rt:46:5
 loop-less-3 : tie.Need-loop-less-3 Inv-loop μ-loop
-loop-less-3 c = let u = do-up _ _ _ _ _ ((c .before .before .before .before .before .before .before .before .before .before .before .before .before .before .before .before .before .before .before .loop .inv .2)) ((c .before .before .before .before .before .before .before .before .before .before .before .before .before .before .before .before .before .before .instr .ensures)) ((c .before .before .before .before .before .before .pass2 .ensures)) (not-false _ ((c .if7 .left))) in omega (arith, u .0, u .1)
+loop-less-3 c = let u = do-up _ _ _ _ _ ((c .before .before .before .before .before .before .before .before .before .before .before .before .before .before .before .before .before .before .before .before .before .loop .inv .2)) ((c .before .before .before .before .before .before .before .before .before .before .before .before .before .before .before .before .before .before .before .before .instr .ensures)) ((c .before .before .before .before .before .before .before .pass2 .ensures)) (not-false _ ((c .before .if7 .left))) in omega (arith, u .0, u .1)
 
 -- src/lay.rt:46:5
 loop-again-3 : tie.Need-loop-again-3 Inv-loop μ-loop
-loop-again-3 c = ((c .before .before .before .before .before .before .before .before .before .before .before .before .before .before .before .before .before .before .before .loop .inv .0), (c .before .before .before .before .before .before .pass2 .ensures .room) ∙ (c .before .before .before .before .before .before .before .before .before .before .before .before .before .before .before .before .before .before .before .loop .inv .1), do-rep _ _ _ _ _ ((c .before .before .before .before .before .before .before .before .before .before .before .before .before .before .before .before .before .before .before .loop .inv .2)) ((c .before .before .before .before .before .before .before .before .before .before .before .before .before .before .before .before .before .before .instr .ensures)) (omega (arith, (c .before .before .before .before .before .before .before .before .before .before .before .before .before .before .before .before .before .before .before .loop .inv .0 .deep), (c .before .before .before .before .before .before .before .before .before .before .before .before .before .before .before .before .before .before .before .loop .inv .2 .long))) ((c .before .before .before .before .before .before .before .before .before .if6 .taken)) ((c .before .before .before .before .before .before .before .before .before .before .before .before .before .go .ensures)) ((c .before .before .before .before .before .before .before .before .before .before .before .if4 .left)) ((c .before .before .before .before .before .before .pass2 .ensures)) (not-false _ ((c .if7 .left))))
+loop-again-3 c = ((c .before .before .before .before .before .before .before .before .before .before .before .before .before .before .before .before .before .before .before .before .before .loop .inv .0), (c .before .before .before .before .before .before .before .pass2 .ensures .room) ∙ (c .before .before .before .before .before .before .before .before .before .before .before .before .before .before .before .before .before .before .before .before .before .loop .inv .1), do-rep _ _ _ _ _ ((c .before .before .before .before .before .before .before .before .before .before .before .before .before .before .before .before .before .before .before .before .before .loop .inv .2)) ((c .before .before .before .before .before .before .before .before .before .before .before .before .before .before .before .before .before .before .before .before .instr .ensures)) (omega (arith, (c .before .before .before .before .before .before .before .before .before .before .before .before .before .before .before .before .before .before .before .before .before .loop .inv .0 .deep), (c .before .before .before .before .before .before .before .before .before .before .before .before .before .before .before .before .before .before .before .before .before .loop .inv .2 .long))) ((c .before .before .before .before .before .before .before .before .before .before .before .if6 .taken)) ((c .before .before .before .before .before .before .before .before .before .before .before .before .before .before .before .go .ensures)) ((c .before .before .before .before .before .before .before .before .before .before .before .before .before .if4 .left)) ((c .before .before .before .before .before .before .before .pass2 .ensures)) (not-false _ ((c .before .if7 .left))), c .before .before .before .before .before .before .before .before .before .before .alone2 .ensures .known)
 
 -- src/lay.rt:85:14
 add-pc-2 : tie.Need-add-pc-2 Inv-loop μ-loop
@@ -148,7 +157,7 @@ loop-less-4 c = omega (arith, turn-within _ _ _ _ _ ((c .before .before .before 
 
 -- src/lay.rt:46:5
 loop-again-4 : tie.Need-loop-again-4 Inv-loop μ-loop
-loop-again-4 c = ((c .before .before .before .before .before .before .before .before .before .before .loop .inv .0), (c .before .before .before .before .before .before .before .before .before .before .loop .inv .1), do-on _ _ _ _ _ ((c .before .before .before .before .before .before .before .before .before .before .loop .inv .2)) ((c .before .before .before .before .before .before .before .before .before .instr .ensures)) ((c .before .before .before .before .before .before .before .if1 .left)) ((c .before .before .before .before .before .if2 .left)) ((c .if6 .left)) ((c .before .before .before .before .go .ensures)) ((c .before .before .if4 .left)))
+loop-again-4 c = ((c .before .before .before .before .before .before .before .before .before .before .loop .inv .0), (c .before .before .before .before .before .before .before .before .before .before .loop .inv .1), do-on _ _ _ _ _ ((c .before .before .before .before .before .before .before .before .before .before .loop .inv .2)) ((c .before .before .before .before .before .before .before .before .before .instr .ensures)) ((c .before .before .before .before .before .before .before .if1 .left)) ((c .before .before .before .before .before .if2 .left)) ((c .if6 .left)) ((c .before .before .before .before .go .ensures)) ((c .before .before .if4 .left)), c .before .before .before .before .before .before .before .before .before .before .loop .inv .3)
 
 pub lay-spec : {M : Type 1} → statement M
 lay-spec =
@@ -166,6 +175,7 @@ lay-spec =
     same-length
     same-length-2
     returns
+    alone-requires
     pass-requires
     same-length-3
     same-length-4
@@ -179,6 +189,7 @@ lay-spec =
     returns-3
     loop-less-2
     loop-again-2
+    alone-requires-2
     pass-requires-2
     same-length-7
     same-length-8

@@ -8,7 +8,6 @@ use Rattle.checker.proofs.pass.meet.Tie as tie
 use Rattle.checker.proofs.pass.meet.Reads as reads
 use Rattle.checker.proofs.pass.meet.Lts as lts
 use Rattle.checker.proofs.rows.wide.Reads as wide-reads
-use Rattle.grammar.proofs.picks.lone.Reads as lone-reads
 use Rattle.lexis.proofs.keys.met_before.Reads as met-before-reads
 
 -- src/pass.rt:56:9
@@ -19,13 +18,9 @@ returns c = met-other _ _ _ _ _ ((c .if1 .taken))
 wide-requires : tie.Need-wide-requires
 wide-requires c κs = search needs
 
--- src/pass.rt:62:9
-lone-requires : tie.Need-lone-requires
-lone-requires c κs = search needs
-
 -- src/pass.rt:63:9
 returns-2 : tie.Need-returns-2
-returns-2 c = met-loose _ _ _ _ _ (rw (sym ((c .before .before .wide .ensures .0))) (sym ((c .before .lone .ensures)) ∙ not-true _ ((c .if2 .taken))))
+returns-2 c = met-loose _ _ _ _ _ (sym (c .before .before .before .before .pre .1 (c .before .if1 .left)) ∙ not-true _ (c .if2 .taken))
 
 -- src/pass.rt:68:8
 met-before-requires : tie.Need-met-before-requires
@@ -37,7 +32,7 @@ same-length c = search needs
 
 -- src/pass.rt:69:9
 returns-3 : tie.Need-returns-3
-returns-3 c = met-old _ _ _ _ _ ((c .before .before .before .before .before .before .if1 .left)) (rw (sym ((c .before .before .before .before .before .wide .ensures .0))) (sym ((c .before .before .before .before .lone .ensures)) ∙ not-false _ ((c .before .before .before .if2 .left)))) (rw (sym ((c .before .before .before .before .before .wide .ensures .0))) (sym ((c .before .met-before .ensures)) ∙ (c .if3 .taken)))
+returns-3 c = met-old _ _ _ _ _ (c .before .before .before .before .before .if1 .left) (sym (c .before .before .before .before .before .before .before .before .pre .1 (c .before .before .before .before .before .if1 .left)) ∙ not-false _ (c .before .before .before .before .if2 .left)) (rw (sym (c .before .before .before .wide .ensures .0)) (sym (c .before .met-before .ensures) ∙ (c .if3 .taken)))
 
 -- src/pass.rt:71:5
 mul-keys : tie.Need-mul-keys
@@ -57,16 +52,15 @@ same-length-2 c = search needs
 
 -- src/pass.rt:51:1
 returns-4 : tie.Need-returns-4
-returns-4 c = met-new _ _ _ _ _ ((c .before .before .before .before .before .before .before .before .before .pre)) (rw (sym ((c .before .before .before .before .before .wide .ensures .0))) (sym ((c .before .before .before .before .lone .ensures)) ∙ not-false _ ((c .before .before .before .if2 .left)))) (rw (sym ((c .before .before .before .before .before .wide .ensures .0))) (sym ((c .before .met-before .ensures)) ∙ (c .if3 .left)))
+returns-4 c = met-new _ _ _ _ _ (c .before .before .before .before .before .before .before .before .pre .0) (sym (c .before .before .before .before .before .before .before .before .pre .1 (c .before .before .before .before .before .if1 .left)) ∙ not-false _ (c .before .before .before .before .if2 .left)) (rw (sym (c .before .before .before .wide .ensures .0)) (sym (c .before .met-before .ensures) ∙ (c .if3 .left)))
 
 pub meet-spec : {M : Type 1} → statement M
 meet-spec =
     tie.close
     (tie.spec
     returns
-    wide-requires
-    lone-requires
     returns-2
+    wide-requires
     met-before-requires
     same-length
     returns-3

@@ -2,7 +2,7 @@ use native.Mathlib.Omega.{arith}
 use Prim.Native.Nat.{_-_, _+_, _*_, _<_}
 use mathlib.Core.Path.{_≡_, refl, sym, ap, subst, _∙_}
 use borrow.Author.Tests.{not-true, not-false}
-use Rattle.checker.proofs.Passes.{pass-no, pass-suits, pass-met, pass-yes}
+use Rattle.checker.proofs.Passes.{meet-told, pass-no, pass-suits, pass-met, pass-yes}
 use borrow.Author.Needs.{needs}
 use Rattle.checker.proofs.pass.pass.Statement.{statement}
 use Rattle.checker.proofs.pass.pass.Tie as tie
@@ -57,7 +57,7 @@ shared-slice-read-meet c = search needs
 
 -- src/pass.rt:126:9
 meet-requires : tie.Need-meet-requires
-meet-requires c κs = search needs
+meet-requires c κs = (omega (arith, c .before .before .before .before .before .before .before .before .before .before .before .pre .keyed), meet-told (c .before .before .before .before .before .before .before .before .before .before .before .args .s .now) (c .before .before .before .before .before .before .before .before .before .before .before .pre .told) (c .before .before .before .before .child .ensures) (c .before .before .before .suits .ensures) (not-false _ (c .before .before .if2 .left)))
 
 -- src/pass.rt:128:9
 missed-requires-3 : tie.Need-missed-requires-3

@@ -2,15 +2,16 @@ use native.Mathlib.Omega.{arith}
 use Prim.Native.Nat.{_-_, _+_, _*_, _<_}
 use mathlib.Core.Path.{_≡_, refl, sym, ap, subst, _∙_}
 use borrow.Author.Tests.{not-true, not-false}
+use Rattle.checker.proofs.Precedences.{right-yes, right-no}
 use Rattle.checker.proofs.Passes.{suits-no, suits-by}
 use borrow.Author.Needs.{needs}
 use Rattle.checker.proofs.pass.suits.Statement.{statement}
 use Rattle.checker.proofs.pass.suits.Tie as tie
 use Rattle.checker.proofs.pass.suits.Reads as reads
 use Rattle.checker.proofs.pass.suits.Lts as lts
+use Rattle.checker.proofs.precedence.groups.Reads as groups-reads
 use Rattle.checker.proofs.program.fits.Reads as fits-reads
 use Rattle.checker.proofs.rows.wide.Reads as wide-reads
-use Rattle.grammar.proofs.kinds.tight.Reads as tight-reads
 
 -- src/pass.rt:36:28
 mul-wide : tie.Need-mul-wide
@@ -73,16 +74,12 @@ shared-slice-read-kind : tie.Need-shared-slice-read-kind
 shared-slice-read-kind c = search needs
 
 -- src/pass.rt:44:8
-tight-requires : tie.Need-tight-requires
-tight-requires c κs = search needs
-
--- src/pass.rt:44:8
-cast-if3 : tie.Need-cast-if3
-cast-if3 c = search needs
+groups-requires : tie.Need-groups-requires
+groups-requires c κs = search needs
 
 -- src/pass.rt:45:9
 returns-3 : tie.Need-returns-3
-returns-3 c = suits-no (λ a b d e. omega (arith, d, (c .if3 .taken), (c .before .tight .ensures)))
+returns-3 c = suits-no (λ a b d e. right-no (c .before .groups .ensures) (not-true _ (c .if3 .taken)) d)
 
 -- src/pass.rt:47:5
 fits-requires : tie.Need-fits-requires
@@ -90,7 +87,7 @@ fits-requires c κs = search needs
 
 -- src/pass.rt:32:1
 returns-4 : tie.Need-returns-4
-returns-4 c = suits-by ((c .fits2 .ensures)) (sym ((c .before .before .before .before .before .before .before .before .wide .ensures .0)) ∙ (c .before .before .before .before .before .before .before .if1 .left)) (omega (arith, (c .before .if3 .left), (c .before .before .tight .ensures)))
+returns-4 c = suits-by ((c .fits2 .ensures)) (sym ((c .before .before .before .before .before .before .before .before .wide .ensures .0)) ∙ (c .before .before .before .before .before .before .before .if1 .left)) (right-yes (c .before .before .groups .ensures) (not-false _ (c .before .if3 .left)))
 
 pub suits-spec : {M : Type 1} → statement M
 suits-spec =
@@ -111,8 +108,7 @@ suits-spec =
     mul-kind
     mul-kind-2
     shared-slice-read-kind
-    tight-requires
-    cast-if3
+    groups-requires
     returns-3
     fits-requires
     returns-4)
