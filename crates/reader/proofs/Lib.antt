@@ -16,6 +16,7 @@ mod Signs
 mod Bares
 mod Objects
 mod Entries
+mod Keepings
 mod ObjectTurns
 mod Wholly
 mod Nodes
