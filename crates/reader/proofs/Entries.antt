@@ -1,19 +1,19 @@
 -- An object's item: its key, its sign and its value.
-use Prim.Native.Nat.{ℕ, zero, suc, _+_, _-_, _≤_}
+use Prim.Native.Nat.{ℕ, _+_, _≤_}
 use mathlib.Core.Path.{_≡_, refl, sym, ap, _∙_}
 use mathlib.Core.Bool.{Bool, false}
 use mathlib.Core.Option.{some}
 use mathlib.Core.List.{List, [], _∷_}
 use native.Mathlib.Omega.{arith}
-use lib.ListN.{length, take, drop}
-use lib.Seq.{take-nil}
+use lib.ListN.{length}
 use Rattle.engine.specs.Base.{Outcome, halt, Tree, rename}
 use Rattle.engine.specs.BaseLaws.{size-pos}
 use Rattle.engine.specs.Engine.{FailIn}
 use Rattle.engine.specs.Layout.{fin, move, kid, fork, grammar}
 use Rattle.engine.specs.Way.{mid, way-kid}
-use Rattle.lexis.specs.Heredoc.{part}
-use Rattle.lexis.specs.Keys.{among, metBefore}
+use Rattle.lexis.specs.Keys.{among}
+use Rattle.index.specs.Index.{starts, Indexed}
+use Rattle.index.specs.IndexLaws.{starts-kept, indexed-kept}
 use Rattle.grammar.specs.Moves.{Under, to, no, skip, anExpression, anItem, gap, mark, fresh, line, walk, atom}
 use Rattle.grammar.specs.Layouts.{key, value, sameLine, Layout, layouts, layoutOf, itemLay}
 use Rattle.grammar.specs.Hcl.{hcl, under, bare, pickAt}
@@ -22,7 +22,7 @@ use Rattle.grammar.specs.Table.{recordOf}
 use Rattle.reader.specs.declared.Step.{Step}
 use Rattle.reader.specs.Buffer.{putAt}
 use Rattle.reader.specs.Said.{stepOf, Climbs, Good, Kept, Said, SaidItem, One}
-use Rattle.reader.specs.Items.{bared, equalsStep, colonStep, Signed, equals, colon, neither}
+use Rattle.reader.specs.Items.{metIn, bared, equalsStep, colonStep, Signed, equals, colon, neither}
 use Rattle.reader.proofs.Stages.{put-of, Stage, stage-start, stage-take, stage-move, stage-yes, stage-no, stage-stop, stage-kid, stage-kid-no}
 use Rattle.reader.proofs.Answers.{good, from-good, refused, pass, done, Done, stage-made, done-head, head-no, head-whole, head-whole-no, kept-join}
 use Rattle.reader.proofs.Bares.{bare-is, put-bare}
@@ -30,14 +30,8 @@ use Rattle.reader.proofs.Objects.{sign-walk}
 
 -- ---- what is not changed of the keys is met as before
 
-pub part-take : (a k : ℕ) (l : List ℕ) → part l a k ≡ drop a (take k l)
-part-take zero k l = let e : k - 0 ≡ k = omega arith in rw e
-part-take (suc a) zero l = let e : 0 - suc a ≡ 0 = omega arith in rw e
-part-take (suc a) (suc k) [] = take-nil (suc k - suc a)
-part-take (suc a) (suc k) (x ∷ l) = let e : suc k - suc a ≡ k - a = omega arith in rw e (part-take a k l)
-
-pub part-kept : (a k : ℕ) {y y′ : List ℕ} → Kept k y y′ → part y′ a k ≡ part y a k
-part-kept a k {y} {y′} h = part-take a k y′ ∙ ap (drop a) (h .same) ∙ sym (part-take a k y)
+pub still-indexed : {s y y′ : List ℕ} {first k : ℕ} → Kept k y y′ → Indexed s y first k → Indexed s y′ first k
+still-indexed {s} {y} {y′} {first} {k} h g = indexed-kept y y′ k (h .same) s first g
 
 pub gap-walk : (s : List ℕ) (b : Under) (σ p : ℕ) {q : ℕ} → skip s false p ≡ to q → walk s b σ sameLine p ≡ to q
 unfolding walk atom
@@ -97,9 +91,9 @@ module _ (s : List ℕ) (left : ℕ) (ks : List ℕ) (i u p : ℕ) where
 -- ---- the answers
 
 said-item : {s : List ℕ} {left i u k first p : ℕ} {b b′ x x′ y y′ : List ℕ} {r : Step}
-    → ((ks : List ℕ) → among s ks p ≡ metBefore s y first k p → Said (Climbs s (under left false (anItem ks)) 8 p) s i u k p b b′ x x′ y y′ r) → (r .kind ≡ 0 → p + 3 ≤ r .end) → SaidItem s left i u k first p b b′ x x′ y y′ r
+    → ((ks : List ℕ) → among s ks p ≡ metIn s y first k p → Said (Climbs s (under left false (anItem ks)) 8 p) s i u k p b b′ x x′ y y′ r) → (r .kind ≡ 0 → p + 3 ≤ r .end) → SaidItem s left i u k first p b b′ x x′ y y′ r
 said-item {k = k} {first} {y = y} f long =
-    let h = f (part y first k) refl in
+    let h = f (starts y first k) refl in
     record { said = f; room = h .room; spent = h .spent; high = h .high; kept = h .kept; long = long }
 
 no-length : {A : Type 0} {z q : ℕ} {r : Step} → r ≡ stepOf z q 0 0 → ¬ (z ≡ 0) → r .kind ≡ 0 → A
@@ -114,18 +108,18 @@ module _ (first : ℕ) {s : List ℕ} {left i u k p : ℕ} {b b₁ x x₁ y y₁
   pub no-key : ¬ (m .kind ≡ 0) → SaidItem s left i u k first p b b₁ x x₁ y y₁ m
   no-key pos = said-item (λ ks same. pass a pos (omega arith) (λ z q h. item-fails s left ks i u p (stage-kid-no (item-start s left ks i u p b x within) (λ ξ. refl) refl h tt)) (a .kept)) (λ z. absurd (pos z))
 
-  met-same : (ks : List ℕ) → among s ks p ≡ metBefore s y first k p → among s ks p ≡ metBefore s y₁ first k p
-  met-same ks h = h ∙ ap (λ (l : List ℕ). among s l p) (sym (part-kept first k (a .kept)))
+  met-same : (ks : List ℕ) → among s ks p ≡ metIn s y first k p → among s ks p ≡ metIn s y₁ first k p
+  met-same ks h = h ∙ ap (λ (l : List ℕ). among s l p) (sym (starts-kept y y₁ k (a .kept .same) first))
 
   module _ {b₂ : List ℕ} (ok : m .kind ≡ 0) (put : b₂ ≡ bared s b₁ i (m .count) p (m .end)) where
-    module _ {z q φ : ℕ} (sign : Signed (equalsStep (metBefore s y₁ first k p) s p (m .end)) (colonStep (metBefore s y₁ first k p) s p (m .end)) z q φ) where
+    module _ {z q φ : ℕ} (sign : Signed (equalsStep (metIn s y₁ first k p) s p (m .end)) (colonStep (metIn s y₁ first k p) s p (m .end)) z q φ) where
       pub no-sign : {r : Step} → ¬ (z ≡ 0) → r ≡ stepOf z q 0 0 → p ≤ q → q ≤ length s → SaidItem s left i u k first p b b₂ x x₁ y y₁ r
       no-sign pos e low high =
-          said-item (λ ks same. refused z q e (item-sign-no s left ks i u p (metBefore s y₁ first k p) (met-same ks same) (item-key s left ks i u p (good a ok) put within) sign pos) (omega arith) low high (a .kept)) (no-length e pos)
+          said-item (λ ks same. refused z q e (item-sign-no s left ks i u p (metIn s y₁ first k p) (met-same ks same) (item-key s left ks i u p (good a ok) put within) sign pos) (omega arith) low high (a .kept)) (no-length e pos)
 
       module _ (zero-kind : z ≡ 0) (low : m .end + 1 ≤ q) (high : q ≤ length s) where
-        signed : (ks : List ℕ) → among s ks p ≡ metBefore s y first k p → Item s left ks i u p b b₂ x x₁ (valueLay φ) q (m .count) (m .text) 1
-        signed ks same = item-sign s left ks i u p (metBefore s y₁ first k p) (met-same ks same) (item-key s left ks i u p (good a ok) put within) (rw zero-kind at sign) low high
+        signed : (ks : List ℕ) → among s ks p ≡ metIn s y first k p → Item s left ks i u p b b₂ x x₁ (valueLay φ) q (m .count) (m .text) 1
+        signed ks same = item-sign s left ks i u p (metIn s y₁ first k p) (met-same ks same) (item-key s left ks i u p (good a ok) put within) (rw zero-kind at sign) low high
 
         pub no-space : {w e : ℕ} {r : Step} → skip s false q ≡ no w e → ¬ (w ≡ 0) → r ≡ stepOf w e 0 0 → q ≤ e → e ≤ length s → SaidItem s left i u k first p b b₂ x x₁ y y₁ r
         no-space {w} {e} h pos f low′ high′ =
@@ -133,7 +127,7 @@ module _ (first : ℕ) {s : List ℕ} {left i u k p : ℕ} {b b₁ x x₁ y y₁
 
         module _ {e : ℕ} (sp : skip s false q ≡ to e) (low′ : q ≤ e) (high′ : e ≤ length s) {b₃ x₂ y₂ : List ℕ} {v : Step}
             (c : Said (Climbs s (under left false anExpression) 0 e) s (i + m .count) (u + m .text) k e b₂ b₃ x₁ x₂ y₁ y₂ v) where
-          spaced : (ks : List ℕ) → among s ks p ≡ metBefore s y first k p → Item s left ks i u p b b₂ x x₁ (kid value (fin φ)) e (m .count) (m .text) (1 + 0)
+          spaced : (ks : List ℕ) → among s ks p ≡ metIn s y first k p → Item s left ks i u p b b₂ x x₁ (kid value (fin φ)) e (m .count) (m .text) (1 + 0)
           spaced ks same = stage-move 0 (signed ks same) (λ ξ. gap-walk s (under left false (anItem ks)) p q sp) (omega arith) high′
 
           pub no-value : ¬ (v .kind ≡ 0) → SaidItem s left i u k first p b b₃ x x₂ y y₂ v
@@ -142,7 +136,7 @@ module _ (first : ℕ) {s : List ℕ} {left i u k p : ℕ} {b b₁ x x₁ y y₁
 
           module _ (done-value : v .kind ≡ 0) {b₄ : List ℕ} {r : Step} (answer : r ≡ stepOf 0 (v .end) (m .count + v .count + 1) (m .text + v .text))
               (laid : b₄ ≡ putAt b₃ (i + (m .count + v .count)) (recordOf 13 φ p (v .end) (0 + (m .count + v .count) + 1) (0, 0))) where
-            whole : (ks : List ℕ) → among s ks p ≡ metBefore s y first k p → Good (Climbs s (under left false (anItem ks)) 8 p) s i u p b b₄ x x₂ (v .end) (m .count + v .count + 1) (m .text + v .text)
+            whole : (ks : List ℕ) → among s ks p ≡ metIn s y first k p → Good (Climbs s (under left false (anItem ks)) 8 p) s i u p b b₄ x x₂ (v .end) (m .count + v .count + 1) (m .text + v .text)
             whole ks same =
                 let st = stage-kid 0 (spaced ks same) refl (λ ξ. refl) refl (good c done-value) (omega (arith, c .room)) refl refl refl refl in
                 let d = done (stage-made 0 st answer laid) (ap (λ (x : Step). x .kind) answer) in

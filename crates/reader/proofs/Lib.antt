@@ -17,6 +17,7 @@ mod Signs
 mod Bares
 mod Objects
 mod Entries
+mod Keepings
 mod ObjectTurns
 mod Wholly
 mod Nodes

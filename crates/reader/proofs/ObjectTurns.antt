@@ -1,12 +1,11 @@
 -- An object: its brace, its items one after the other, and its end.
 use Prim.Native.Nat.{ℕ, suc, _+_, _*_, _-_, _≤_, _<_}
 use mathlib.Core.Path.{_≡_, refl, sym, ap, subst, _∙_}
-use mathlib.Core.Bool.{Bool, true, false, cond, not, _||_}
+use mathlib.Core.Bool.{Bool, true, false, cond}
 use mathlib.Core.Option.{some}
 use mathlib.Core.List.{List, [], _∷_, _++_, append-nil}
 use native.Mathlib.Omega.{arith}
-use lib.ListN.{length, take, drop, set, length-set}
-use lib.Seq.{take-take, take-suc-set, take-set-le, drop-append-le, length-take-le}
+use lib.ListN.{length, drop}
 use lib.Dec.{eqb}
 use borrow.Author.Tests.{eqb-true}
 use Rattle.engine.specs.Base.{halt, Rec, Tree, Trees, nil, one, join, recOf, rename, renamed, choose, sizes}
@@ -16,8 +15,10 @@ use Rattle.engine.specs.Engine.{Whole, FailIn, FailAt}
 use Rattle.engine.specs.Layout.{fin, move, kid, fork, rep, State, grammar, alias}
 use Rattle.engine.specs.Way.{mid, Way, way-start, way-move, way-no, way-kid, way-kid-no, way-rep, way-rep-no}
 use Rattle.lexis.specs.Bytes.{byteAt, begins, stands, isForeign}
-use Rattle.lexis.specs.Heredoc.{part}
-use Rattle.lexis.specs.Keys.{among, sameKey, metBefore}
+use Rattle.lexis.specs.Keys.{among}
+use Rattle.index.specs.Index.{Indexed}
+use Rattle.index.specs.Index as index
+use Rattle.index.specs.IndexLaws.{indexed-none}
 use Rattle.lexis.specs.RunLaws.{inside, next, clash, stands-one}
 use Rattle.grammar.specs.Kinds.{Deep, Foreign, Unexpected}
 use Rattle.grammar.specs.Moves.{Under, to, no, when, unexpected, skip, place, lone, lones, anExpression, anItem, Move, walk, atom}
@@ -27,53 +28,13 @@ use Rattle.grammar.specs.Table.{recordOf, recordsOf, recordsOfs, textsOf, texts
 use Rattle.reader.specs.declared.Step.{Step}
 use Rattle.reader.specs.Buffer.{putAt, lay, write}
 use Rattle.reader.specs.Said.{stepOf, Climbs, Heads, Kept, Said, SaidItem, One}
-use Rattle.reader.specs.Items.{behindItem}
+use Rattle.reader.specs.Items.{metIn, behindItem, Keeping, Keeps}
 use Rattle.reader.proofs.Lays.{lay-none, lay-join, write-none, write-join, total-append, texts-join, records-join, lengths-records, texts-same, records-same}
 use Rattle.reader.proofs.Stages.{Stage, stage-start, stage-move, stage-yes, stage-no, stage-stop, stage-end}
 use Rattle.reader.proofs.Answers.{good, from-good, refused, pass, done, Done, stage-made, done-head, head-no, kept-join, kept-same}
 use Rattle.reader.proofs.Objects.{further, closer, behind-no, behind-last, behind-more}
-use Rattle.reader.proofs.Entries.{part-take, part-kept}
-
--- ---- the keys that were met, with one more
-
-or-swap : (a b c : Bool) → (a || (b || c)) ≡ (b || (a || c))
-or-swap true true c = refl
-or-swap true false c = refl
-or-swap false b c = refl
-
-among-last : (s l : List ℕ) (q v : ℕ) → among s (l ++ q ∷ []) v ≡ (sameKey s q v || among s l v)
-unfolding among
-among-last s [] q v = refl
-among-last s (a ∷ l) q v = rw (among-last s l q v) (or-swap (sameKey s a v) (sameKey s q v) (among s l v))
-
-part-more : (y : List ℕ) (k top q : ℕ) → k ≤ top → top < length y → part (set y top q) k (suc top) ≡ part y k top ++ q ∷ []
-part-more y k top q low h =
-    part-take k (suc top) (set y top q) ∙ ap (drop k) (take-suc-set y top q h)
-    ∙ drop-append-le k (take top y) (q ∷ []) (rw (length-take-le top y (omega arith)) low) ∙ ap (λ (l : List ℕ). l ++ q ∷ []) (sym (part-take k top y))
-
-pub met-more : (s l : List ℕ) (k top q v : ℕ) {y y′ y″ : List ℕ} {r : ℕ} → among s (lones s l) v ≡ metBefore s y k top v → Kept top y y′ → k ≤ top → top < length y′
-    → y″ ≡ cond (lone s q) (set y′ top q) y′ → r ≡ cond (lone s q) (top + 1) top → among s (lones s (q ∷ l)) v ≡ metBefore s y″ k r v
-unfolding lones among
-met-more s l k top q v {y} {y′} {y″} {r} h kept low high e f = go (lone s q) e f
-  where
-    same : among s (part y′ k top) v ≡ among s (lones s l) v
-    same = ap (λ (x : List ℕ). among s x v) (part-kept k top kept) ∙ sym h
-
-    go : (x : Bool) → y″ ≡ cond x (set y′ top q) y′ → r ≡ cond x (top + 1) top → among s (cond x (q ∷ lones s l) (lones s l)) v ≡ metBefore s y″ k r v
-    go true e f =
-        let z : r ≡ suc top = omega (arith, f) in
-        rw (z, e, part-more y′ k top q low high, among-last s (part y′ k top) q v, same)
-    go false e f = rw (f, e) (sym same)
-
-kept-less : {k top : ℕ} {y y′ : List ℕ} → k ≤ top → Kept top y y′ → Kept k y y′
-kept-less {k} {top} {y} {y′} low h = record { same = sym (take-less y′) ∙ ap (take k) (h .same) ∙ take-less y; long = h .long }
-  where
-    take-less : (l : List ℕ) → take k (take top l) ≡ take k l
-    take-less l = take-take k top l low
-
-kept-set : (k top q : ℕ) (y : List ℕ) {y′ : List ℕ} (x : Bool) → k ≤ top → y′ ≡ cond x (set y top q) y → Kept k y y′
-kept-set k top q y true low e = record { same = rw e (take-set-le k y top q low); long = rw e (length-set y top q) }
-kept-set k top q y false low e = record { same = ap (take k) e; long = ap length e }
+use Rattle.reader.proofs.Entries.{still-indexed}
+use Rattle.reader.proofs.Keepings.{met-more, kept-less, kept-next}
 
 -- ---- the brace
 
@@ -161,7 +122,7 @@ module _ (s : List ℕ) (left : ℕ) (lines : Bool) (i u p : ℕ) where
   unfolding layouts
   object-start b x h = stage-start (λ _. []) (omega arith) h
 
-  -- an item is next, at q: the starts of the earlier keys that may be compared are met just as those from the k-th to before the top-th in y
+  -- an item is next, at q: the starts of the earlier keys that may be compared are met just as the slots from the k-th to before the top-th in y
   pub record Turn (k : ℕ) (b b′ x x′ y₀ y : List ℕ) (q n t top : ℕ) : Type 0 where
     pub kids : Trees ℕ
     pub recs : List (Rec ℕ)
@@ -172,7 +133,8 @@ module _ (s : List ℕ) (left : ℕ) (lines : Bool) (i u p : ℕ) where
     pub text : total (textsOfs s p kids) ≡ t
     pub laid : b′ ≡ lay b i (recordsOfs s p u kids)
     pub written : x′ ≡ write x u (textsOfs s p kids)
-    pub met : (v : ℕ) → among s (lones s (starts recs)) v ≡ metBefore s y k top v
+    pub met : (v : ℕ) → among s (lones s (starts recs)) v ≡ metIn s y k top v
+    pub indexed : Indexed s y k top
     pub kept : Kept k y₀ y
     pub low : k ≤ top
     pub few : 3 * top ≤ q
@@ -217,9 +179,9 @@ module _ (s : List ℕ) (left : ℕ) (lines : Bool) (i u p : ℕ) where
             from-good (done-head refl refl pick tt refl refl d′ (omega arith) (omega arith) (omega arith)) f (kept-same y)
 
         -- the first
-        pub turn-start : {k : ℕ} {b x y : List ℕ} → 3 * k ≤ p → eqb (byteAt s q) 125 ≡ false → Turn k b b x x y y q 0 0 k
-        unfolding layouts lones among
-        turn-start {k} {b} {x} {y} few h =
+        pub turn-start : {k : ℕ} {b x y : List ℕ} → 3 * k ≤ p → 4 * length s ≤ 3 * length y → eqb (byteAt s q) 125 ≡ false → Turn k b b x x y y q 0 0 k
+        unfolding layouts lones among index.startsOf
+        turn-start {k} {b} {x} {y} few wide h =
             let way = way-move (hcl s)
             (way-no (hcl s)
             (way-move (hcl s) (way-start (hcl s) inObject p [] 12 (layoutOf 12) p) (ap place (open-walk s inObject p p (left - 1) left-is (object-brace s left lines p pick))))
@@ -235,6 +197,7 @@ module _ (s : List ℕ) (left : ℕ) (lines : Bool) (i u p : ℕ) where
               laid = lay-none b i;
               written = write-none x u;
               met = λ v. let z : k - k ≡ 0 = omega arith in rw z;
+              indexed = indexed-none s y k (omega arith);
               kept = kept-same y;
               low = omega arith;
               few = omega arith;
@@ -255,6 +218,14 @@ module _ (s : List ℕ) (left : ℕ) (lines : Bool) (i u p : ℕ) where
       turn-no pos = pass asked pos (omega (arith, w .room)) (λ z c f. object-fails (w .fails z c f)) keeps
 
       module _ (ok : m .kind ≡ 0) where
+        -- there is room for its key
+        pub turn-keeping : length s ≤ 65535 → 4 * length s ≤ 3 * length y₀ → Keeping s y′ k top q
+        turn-keeping small wide =
+            record {
+              indexed = still-indexed (a .kept) (w .indexed);
+              fits = record { room = omega (arith, keeps .long, w .few, a .long ok, a .high); few = omega (arith, w .few, w .high); small = omega (arith, w .high) };
+            }
+
         taken : Object b b″ x x″ restLay (m .end) (n + m .count) (t + m .text) 1
         taken =
             let h = good asked ok in
@@ -296,15 +267,15 @@ module _ (s : List ℕ) (left : ℕ) (lines : Bool) (i u p : ℕ) where
               from-good (done-head refl refl pick tt refl refl d′ (omega (arith, st .room)) (omega (arith, st .spent)) (omega arith)) f keeps
 
           -- another follows
-          pub turn-more : {y″ : List ℕ} {r : ℕ} → eqb (byteAt s c) 125 ≡ false → top < length y′ → y″ ≡ cond (lone s q) (set y′ top q) y′ → r ≡ cond (lone s q) (top + 1) top
+          pub turn-more : {y″ : List ℕ} {r : ℕ} → eqb (byteAt s c) 125 ≡ false → Keeps s y′ y″ k top q r
               → Turn k b b″ x x″ y₀ y″ c (n + m .count) (t + m .text) r
           unfolding taken
-          turn-more {y″} {r} h room e₁ e₂ =
+          turn-more {y″} {r} h put =
               let z = (good asked ok) .tree in
               let at : (recOf z) .start ≡ q = (good asked ok) .gives .0 in
               let moved = behind-more s inObject p (m .end) e h in
-              let more : r ≤ top + 1 = most (lone s q) e₂ in
-              let least : top ≤ r = fewest (lone s q) e₂ in
+              let more : r ≤ top + 1 = most (lone s q) (put .next) in
+              let least : top ≤ r = fewest (lone s q) (put .next) in
               record {
                 kids = taken .kids;
                 recs = taken .recs tt;
@@ -314,8 +285,9 @@ module _ (s : List ℕ) (left : ℕ) (lines : Bool) (i u p : ℕ) where
                 text = taken .text;
                 laid = taken .laid;
                 written = taken .written;
-                met = λ v. rw at (met-more s (starts (w .recs)) k top q v (w .met v) (a .kept) (w .low) room e₁ e₂);
-                kept = kept-join keeps (kept-set k top q y′ (lone s q) (w .low) e₁);
+                met = λ v. rw at (met-more s (starts (w .recs)) k top q v (w .met v) (a .kept) put);
+                indexed = put .indexed;
+                kept = kept-join keeps (kept-next put);
                 low = omega (arith, w .low);
                 few = omega (arith, w .few, a .long ok);
                 room = omega (arith, taken .room);

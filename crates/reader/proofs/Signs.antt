@@ -12,16 +12,16 @@ use Rattle.lexis.specs.declared.trivia.Gap.{Gap}
 use Rattle.lexis.specs.Bytes.{Byte, Ran, byteAt, begins, stands, isStart, isForeign}
 use Rattle.lexis.specs.Trivia.{Gapped, Stopped, gapTo, stop, stopAt, stopComment, lineComment, comment, ending, endsLine, startsComment}
 use Rattle.lexis.specs.Operator.{isMark, equalsTo}
-use Rattle.lexis.specs.Heredoc.{part}
 use Rattle.lexis.specs.Word.{constantAt}
-use Rattle.lexis.specs.Keys.{Key, word, plain, other, sameAs, keyAt, among, metBefore}
+use Rattle.lexis.specs.Keys.{Key, word, plain, other, sameAs, keyAt, among}
 use Rattle.lexis.specs.RunLaws.{stands-one, stands-inside}
+use Rattle.index.specs.Index.{starts}
 use Rattle.grammar.specs.declared.moves.Went.{Went}
 use Rattle.grammar.specs.Kinds.{Unexpected, Foreign}
 use Rattle.grammar.specs.Moves.{Step, to, no, then, when, unexpected, skip, stopStep, marks, behindKey, keyTo, lone}
 use Rattle.grammar.specs.Said.{went, wentOf, Moved}
 use Rattle.reader.specs.declared.items.Sign.{Sign}
-use Rattle.reader.specs.Items.{behindItem, signStep, equalsStep, Signed, equals, colon, neither, Behind, SignedAt, isBare, bared}
+use Rattle.reader.specs.Items.{metIn, behindItem, signStep, equalsStep, Signed, equals, colon, neither, Behind, SignedAt, isBare, bared}
 
 -- ---- behind an item
 
@@ -114,16 +114,16 @@ key-place : {s : List ℕ} (p : ℕ) {e : ℕ} {w : Gap} → e ≡ keyTo s p →
 key-place {s} p key gap = ap (λ (x : Gap). x .at) (gap .is) ∙ ap (λ (x : ℕ). (gapTo false s x) .at) key
 
 module _ {s : List ℕ} (y : List ℕ) (first k p g : ℕ) where
-  pub not-met : {b : ℕ} → Byte s p b → ¬ (b ≡ 34) → isStart b ≡ false → false ≡ (eqb (behindKey s p) g && metBefore s y first k p)
+  pub not-met : {b : ℕ} → Byte s p b → ¬ (b ≡ 34) → isStart b ≡ false → false ≡ (eqb (behindKey s p) g && metIn s y first k p)
   not-met {b} h n f =
-      let e : metBefore s y first k p ≡ false = among-other s (part y first k) p (key-other s p (rw (← h .is) f) (rw (← h .is) (ne-eqb b 34 n))) in
+      let e : metIn s y first k p ≡ false = among-other s (starts y first k) p (key-other s p (rw (← h .is) f) (rw (← h .is) (ne-eqb b 34 n))) in
       sym (rw e (and-no (eqb (behindKey s p) g)))
 
   module _ {e : ℕ} {w : Gap} (key : e ≡ keyTo s p) (gap : Gapped false s e w) where
-    pub elsewhere : ¬ (w .at ≡ g) → false ≡ (eqb (behindKey s p) g && metBefore s y first k p)
+    pub elsewhere : ¬ (w .at ≡ g) → false ≡ (eqb (behindKey s p) g && metIn s y first k p)
     elsewhere n = let h : eqb (behindKey s p) g ≡ false = rw (← key-place p key gap) (ne-eqb (w .at) g n) in rw h
 
-    pub met-here : {r : Bool} → w .at ≡ g → r ≡ metBefore s y first k p → r ≡ (eqb (behindKey s p) g && metBefore s y first k p)
+    pub met-here : {r : Bool} → w .at ≡ g → r ≡ metIn s y first k p → r ≡ (eqb (behindKey s p) g && metIn s y first k p)
     met-here n f = let h : eqb (behindKey s p) g ≡ true = rw (← key-place p key gap) (eq-eqb (w .at) g n) in f ∙ rw h
 
 -- ---- the sign after a key
@@ -172,10 +172,10 @@ module _ {s : List ℕ} {e : ℕ} (y : List ℕ) (first k p : ℕ) {g : Went} (s
     small = omega arith;
   }
 
-  module _ {met : Bool} (z : g .kind ≡ 0) (m : met ≡ (eqb (behindKey s p) (g .at) && metBefore s y first k p)) where
+  module _ {met : Bool} (z : g .kind ≡ 0) (m : met ≡ (eqb (behindKey s p) (g .at) && metIn s y first k p)) where
     pub signed-met : met ≡ true → SignedAt s y first k p e (signOf 7 p 0)
     signed-met f =
-        let t : (eqb (behindKey s p) (g .at) && metBefore s y first k p) ≡ true = sym m ∙ f in
+        let t : (eqb (behindKey s p) (g .at) && metIn s y first k p) ≡ true = sym m ∙ f in
         record {
           is = neither-of 7 p 7 p (rw (sp .good z, t)) (rw (sp .good z, t)) (λ x. omega arith);
           ate = λ x. omega arith;
@@ -185,9 +185,9 @@ module _ {s : List ℕ} {e : ℕ} (y : List ℕ) (first k p : ℕ) {g : Went} (s
         }
 
     module _ {q : ℕ} (f : met ≡ false) (eq : Ran s (g .at) (equalsTo s (g .at)) q) where
-      on-sign : (w : List ℕ) (longer : List (List ℕ)) → signStep w longer (metBefore s y first k p) s p e ≡ marks s w longer (g .at)
+      on-sign : (w : List ℕ) (longer : List (List ℕ)) → signStep w longer (metIn s y first k p) s p e ≡ marks s w longer (g .at)
       on-sign w longer =
-          let t : (eqb (behindKey s p) (g .at) && metBefore s y first k p) ≡ false = sym m ∙ f in
+          let t : (eqb (behindKey s p) (g .at) && metIn s y first k p) ≡ false = sym m ∙ f in
           rw (sp .good z, t)
 
       pub signed-equals : ¬ (q ≡ g .at) → SignedAt s y first k p e (signOf 0 q 0)
@@ -200,7 +200,7 @@ module _ {s : List ℕ} {e : ℕ} (y : List ℕ) (first k p : ℕ) {g : Went} (s
       }
 
       module _ (n : q ≡ g .at) where
-        no-equals : equalsStep (metBefore s y first k p) s p e ≡ unexpected s (g .at)
+        no-equals : equalsStep (metIn s y first k p) s p e ≡ unexpected s (g .at)
         no-equals = on-sign (61 ∷ []) ((61 ∷ 61 ∷ []) ∷ (61 ∷ 62 ∷ []) ∷ []) ∙ equals-no s (g .at) (eq .is) n
 
         pub signed-colon : stands (58 ∷ []) s (g .at) ≡ true → SignedAt s y first k p e (signOf 0 (g .at + 1) 1)

@@ -1,9 +1,9 @@
 -- What stands round an object's items: what ends one, the sign after a key, and the keys that may be compared.
-use Prim.Native.Nat.{ℕ, suc, _+_, _-_, _≤_, _<_}
+use Prim.Native.Nat.{ℕ, suc, _+_, _*_, _-_, _≤_}
 use mathlib.Core.Path.{_≡_}
 use mathlib.Core.Bool.{Bool, true, false, cond, _&&_}
-use mathlib.Core.List.{List, [], _∷_}
-use lib.ListN.{length, set}
+use mathlib.Core.List.{List, [], _∷_, _++_}
+use lib.ListN.{length, take}
 use lib.Dec.{eqb}
 use Rattle.lexis.specs.Bytes.{byteAt, isStart}
 use Rattle.lexis.specs.Word.{constantAt}
@@ -12,9 +12,14 @@ use Rattle.grammar.specs.Moves.{Step, to, no, then, when, skip, stopping, marks
 use Rattle.grammar.specs.Table.{recordOf}
 use Rattle.grammar.specs.declared.moves.Went.{Went}
 use Rattle.grammar.specs.Said.{wentOf}
-use Rattle.lexis.specs.Keys.{metBefore}
+use Rattle.lexis.specs.Keys.{among}
+use Rattle.index.specs.Index.{starts, Indexed, Fits}
 use Rattle.reader.specs.declared.items.Sign.{Sign}
 use Rattle.reader.specs.Buffer.{putAt}
+
+-- the key at p is equal to one of the slots from the first-th to before the k-th in y
+abbrev pub metIn : List ℕ → List ℕ → ℕ → ℕ → ℕ → Bool
+metIn s y first k p = among s (starts y first k) p
 
 -- a key of n records at p is a lone identifier other than `null`, `true`, `false`
 abbrev pub isBare : List ℕ → ℕ → ℕ → Bool
@@ -55,23 +60,26 @@ pub record Behind (s : List ℕ) (e : ℕ) (r : Went) : Type 0 where
   pub low : e ≤ r .at
   pub high : r .at ≤ e + (length s - e)
 
--- `r` is the sign after the key from p to e; the earlier keys stand from the first-th to before the k-th in y
+-- `r` is the sign after the key from p to e; the earlier keys stand in the slots from the first-th to before the k-th of y
 pub record SignedAt (s y : List ℕ) (first k p e : ℕ) (r : Sign) : Type 0 where
-  pub is : Signed (equalsStep (metBefore s y first k p) s p e) (colonStep (metBefore s y first k p) s p e) (r .kind) (r .at) (r .flag)
+  pub is : Signed (equalsStep (metIn s y first k p) s p e) (colonStep (metIn s y first k p) s p e) (r .kind) (r .at) (r .flag)
   pub ate : r .kind ≡ 0 → e + 1 ≤ r .at
   pub low : p ≤ e → p ≤ r .at
   pub high : p ≤ e → e ≤ length s → r .at ≤ length s
   pub small : r .flag ≤ 1
 
--- a start can be put at `top`
-pub record Keeping (y : List ℕ) (top q : ℕ) : Type 0 where
-  pub room : top < length y
-  pub small : q ≤ 65535
+-- a key that starts at q can be put into the slot `top`
+pub record Keeping (s y : List ℕ) (first top q : ℕ) : Type 0 where
+  pub indexed : Indexed s y first top
+  pub fits : Fits y top q
 
--- the item at q is the next: its start is put at `top` where its key may be compared
-pub record Keeps (s y y′ : List ℕ) (top q r : ℕ) : Type 0 where
-  pub keys : y′ ≡ cond (lone s q) (set y top q) y
+-- the item at q is the next: its key is put into the slot `top` where it may be compared, and the slots before the first-th are as they were
+pub record Keeps (s y y′ : List ℕ) (first top q r : ℕ) : Type 0 where
+  pub indexed : Indexed s y′ first r
+  pub keys : starts y′ first r ≡ cond (lone s q) (starts y first top ++ q ∷ []) (starts y first top)
   pub next : r ≡ cond (lone s q) (top + 1) top
+  pub same : take (4 * first) y′ ≡ take (4 * first) y
+  pub long : length y′ ≡ length y
 
 pub record Baring (p e : ℕ) : Type 0 where
   pub from : p ≤ 65535

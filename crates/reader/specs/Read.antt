@@ -4,6 +4,7 @@ use mathlib.Core.Path.{_≡_}
 use mathlib.Core.List.{List}
 use lib.ListN.{length}
 use Rattle.reader.specs.declared.Answer.{Answer}
+use Rattle.lexis.specs.Utf8.{firstBad}
 use Rattle.engine.specs.Base.{Outcome, ok, Tree}
 use Rattle.grammar.specs.Answer.{answer, answerOf, outcome, reading}
 use Rattle.grammar.specs.Answer as grammar
@@ -17,6 +18,11 @@ answerFrom r = answer (r .kind) (r .place) (r .nodes) (r .text)
 -- what the reading of a source is
 abbrev pub Wholes : List ℕ → Outcome ℕ (Tree ℕ) → Type 0
 Wholes s o = reading s ≡ o
+
+-- a source of at most n bytes, of well-formed UTF-8
+pub record Clean (n : ℕ) (s : List ℕ) : Type 0 where
+  pub small : length s ≤ n
+  pub whole : firstBad s ≡ length s
 
 -- a source s, with lent room b for records of seven numbers and x for text; b′ and x′ are what these hold afterwards
 pub record Reads (s b b′ x x′ : List ℕ) (r : Answer) : Type 0 where

@@ -14,7 +14,7 @@ use Rattle.engine.specs.Layout.{Lay, grammar, after}
 use Rattle.engine.specs.Way.{Gives, Begins, Part, mid}
 use Rattle.lexis.specs.Heredoc.{openerAt}
 use Rattle.lexis.specs.String.{modeOf}
-use Rattle.lexis.specs.Keys.{among, metBefore}
+use Rattle.lexis.specs.Keys.{among}
 use Rattle.grammar.specs.Moves.{Want, Under, anExpression, anItem, round}
 use Rattle.grammar.specs.Layouts.{Layout, layoutOf}
 use Rattle.grammar.specs.Hcl.{hcl, under, pickAt, bounds}
@@ -24,19 +24,20 @@ use Rattle.grammar.specs.Wants.{wantIn, below}
 use Rattle.grammar.specs.Programmed.{Programmed}
 use Rattle.grammar.specs.Table.{Record, recordOf, recordsOf, recordsOfs, textsOf, textsOfs, total}
 use Rattle.reader.specs.Buffer.{putAt, lay, write}
+use Rattle.reader.specs.Items.{metIn}
 
 abbrev pub stepOf : ℕ → ℕ → ℕ → ℕ → Step
 stepOf k e n t = record { kind = k; end = e; count = n; text = t }
 
 -- what the reader's functions ask: a source of at most 65,535 bytes, a place in it; no more records, text bytes and thrice the keys before it than bytes;
--- and room for all keys
+-- and room for four numbers of each key
 pub record Asked (s y : List ℕ) (i u k p : ℕ) : Type 0 where
   pub small : length s ≤ 65535
   pub inside : p ≤ length s
   pub few : i ≤ p
   pub used : u ≤ p
   pub opened : 3 * k ≤ p
-  pub wide : 21846 ≤ length y
+  pub wide : 4 * length s ≤ 3 * length y
 
 -- ---- what was asked for
 
@@ -71,9 +72,9 @@ toldAs s i u b b′ x x′ r (ok t) =
 toldAs s i u b b′ x x′ r (halt k a) = (r ≡ stepOf k a 0 0) × (1 ≤ k)
 toldAs s i u b b′ x x′ r stuck = ⊥
 
--- the first k keys are as they were
+-- the first k keys are as they were, of four numbers each
 pub record Kept (k : ℕ) (y y′ : List ℕ) : Type 0 where
-  pub same : take k y′ ≡ take k y
+  pub same : take (4 * k) y′ ≡ take (4 * k) y
   pub long : length y′ ≡ length y
 
 -- what an answer says; Z is what was asked for. The bounds hold of a refusal too, so that arithmetic reads them wherever the answer is used
@@ -167,9 +168,9 @@ pub record SaidSub (c left : ℕ) (lines : Bool) (s : List ℕ) (i u k p : ℕ) 
   pub said : Said (Climbs s (below left lines (classOf c)) (bounds (classOf c)) p) s i u k p b b′ x x′ y y′ r
   pub over : r .kind ≡ 0 → p + r .count + bonus (classOf c) ≤ r .end
 
--- an item, whatever list of earlier keys is handed to it that is met by the same keys as those of `y` from the first-th to before the k-th
+-- an item, whatever list of earlier keys is handed to it that is met by the same keys as the slots of `y` from the first-th to before the k-th
 pub record SaidItem (s : List ℕ) (left i u k first p : ℕ) (b b′ x x′ y y′ : List ℕ) (r : Step) : Type 0 where
-  pub said : (ks : List ℕ) → among s ks p ≡ metBefore s y first k p → Said (Climbs s (under left false (anItem ks)) 8 p) s i u k p b b′ x x′ y y′ r
+  pub said : (ks : List ℕ) → among s ks p ≡ metIn s y first k p → Said (Climbs s (under left false (anItem ks)) 8 p) s i u k p b b′ x x′ y y′ r
   pub room : p + r .count ≤ r .end
   pub spent : p + r .text ≤ r .end
   pub high : r .end ≤ length s

@@ -8,10 +8,11 @@ use grammar::moves::space;
 use grammar::moves::unexpected;
 use grammar::picks::key_end;
 use grammar::picks::lone;
+use index::find;
+use index::insert;
 use lexis::bytes::byte_at;
 use lexis::bytes::is_start;
 use lexis::bytes::one_at;
-use lexis::keys::met_before;
 use lexis::operator::equals_end;
 use lexis::trivia::Stop;
 use lexis::trivia::skip_line;
@@ -20,9 +21,9 @@ use lexis::word::constant_at;
 ghost use mathlib.Core.Path.{_≡_};
 ghost use mathlib.Core.Bool.{_&&_};
 ghost use lib.Dec.{eqb};
-ghost use Rattle.lexis.specs.Keys.{metBefore};
+ghost use Rattle.index.specs.Index.{Indexed};
 ghost use Rattle.grammar.specs.Moves.{behindKey};
-ghost use Rattle.reader.specs.Items.{Behind, SignedAt, Keeping, Keeps, Baring, bared};
+ghost use Rattle.reader.specs.Items.{metIn, Behind, SignedAt, Keeping, Keeps, Baring, bared};
 
 // What stands behind an item that ends at e: past what ends it and any trivia, the place of the next item or of the `}`.
 pub fn behind(s: &[u8], e: usize) -> Went
@@ -56,7 +57,8 @@ pub struct Sign {
 
 // Whether the key at p is the token that stands before g alone, and was met before.
 fn is_met(s: &[u8], keys: &[u16], first: usize, k: usize, p: usize, g: usize) -> bool
-    ensures { λ r. ⌜ r ≡ (eqb (behindKey (now (s .entry)) p) g && metBefore (now (s .entry)) (now (keys .entry)) first k p) ⌝ }
+    requires { ⌜ Indexed (now s) (now keys) first k ⌝ }
+    ensures { λ r. ⌜ r ≡ (eqb (behindKey (now (s .entry)) p) g && metIn (now (s .entry)) (now (keys .entry)) first k p) ⌝ }
 {
     let b = byte_at(s, p);
     // only words and strings are compared
@@ -70,11 +72,12 @@ fn is_met(s: &[u8], keys: &[u16], first: usize, k: usize, p: usize, g: usize) ->
     if w.at != g {
         return false;
     }
-    met_before(s, keys, first, k, p)
+    find(s, keys, first, k, p)
 }
 
-// The sign after the key from p to e, whose object has the earlier keys from the first-th to before the k-th.
+// The sign after the key from p to e, whose object has the earlier keys in the slots from the first-th to before the k-th.
 pub fn sign_at(s: &[u8], keys: &[u16], first: usize, k: usize, p: usize, e: usize) -> Sign
+    requires { ⌜ Indexed (now s) (now keys) first k ⌝ }
     ensures { λ r. ⌜ SignedAt (now (s .entry)) (now (keys .entry)) first k p e r ⌝ }
 {
     let g = space(s, e, false);
@@ -116,15 +119,15 @@ pub fn sign_at(s: &[u8], keys: &[u16], first: usize, k: usize, p: usize, e: usiz
     }
 }
 
-// The item that starts at q is the next of its object: its start stands at `top` in `keys` where its key may be compared. Where the next is put.
-pub fn keep(s: &[u8], keys: &mut [u16], top: usize, q: usize) -> usize
-    requires { ⌜ Keeping (now keys) top q ⌝ }
-    ensures { λ r. ⌜ Keeps (now (s .entry)) (now (keys .entry)) (now (keys .exit)) top q r ⌝ }
+// The item that starts at q is the next of its object: its key goes into the slot `top` where it may be compared. The slot of the next.
+pub fn keep(s: &[u8], keys: &mut [u16], first: usize, top: usize, q: usize) -> usize
+    requires { ⌜ Keeping (now s) (now keys) first top q ⌝ }
+    ensures { λ r. ⌜ Keeps (now (s .entry)) (now (keys .entry)) (now (keys .exit)) first top q r ⌝ }
 {
     if !lone(s, q) {
         return top;
     }
-    keys[top] = q as u16;
+    insert(s, keys, first, top, q);
     top + 1
 }
 

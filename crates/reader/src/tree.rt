@@ -36,6 +36,7 @@ ghost use mathlib.Core.Option.{some};
 ghost use Prim.Native.Nat.{_≤_};
 ghost use lib.Dec.{eqb, T};
 ghost use Rattle.engine.specs.Base.{has};
+ghost use Rattle.index.specs.Index.{Indexed};
 ghost use Rattle.grammar.specs.Said.{classes};
 ghost use Rattle.grammar.specs.Alone.{headOf, HeadAt, NextAt};
 ghost use Rattle.grammar.specs.Moves.{anExpression};
@@ -653,7 +654,7 @@ pub fn pieces(
     }
 }
 
-// An object at p. Its keys that may be compared stand from the k-th on in `keys`.
+// An object at p. Its keys that may be compared stand in the slots from the k-th on.
 pub fn object(
     s: &[u8],
     nodes: &mut [u16],
@@ -697,12 +698,12 @@ pub fn object(
         if one_at(s, c.at, 125) {
             return close(nodes, i, n, Kind::OBJECT, 0, p, c.at + 1, 0, t);
         }
-        top = keep(s, keys, top, q);
+        top = keep(s, keys, k, top, q);
         q = c.at;
     }
 }
 
-// An item at p, with the starts of the earlier keys of its object from the first-th to before the k-th of `keys`.
+// An item at p, with the earlier keys of its object in the slots from the first-th to before the k-th.
 pub fn item(
     s: &[u8],
     nodes: &mut [u16],
@@ -715,7 +716,7 @@ pub fn item(
     p: usize,
     left: usize,
 ) -> Step
-    requires { ⌜ Asked (now s) (now keys) i u k p ⌝ }
+    requires { ⌜ Asked (now s) (now keys) i u k p × Indexed (now s) (now keys) first k ⌝ }
     ensures { λ r. ⌜ SaidItem (now (s .entry)) left i u k first p (now (nodes .entry)) (now (nodes .exit)) (now (text .entry)) (now (text .exit)) (now (keys .entry)) (now (keys .exit)) r ⌝ }
 {
     let m = expr(s, nodes, text, keys, i, u, k, p, left, false, 0);

@@ -12,7 +12,7 @@ returns-2 : tie.Need-returns-2
 returns-2 c = elsewhere (c .before .before .before .before .before .before .before .before .args .keys .now) (c .before .before .before .before .before .before .before .before .args .first) (c .before .before .before .before .before .before .before .before .args .k) (c .before .before .before .before .before .before .before .before .args .p) (c .before .before .before .before .before .before .before .before .args .g) (c .before .before .before .key-end .ensures) (c .before .before .skip-line .ensures) (c .if3 .taken)
 
 returns-3 : tie.Need-returns-3
-returns-3 c = met-here (c .before .before .before .before .before .before .before .before .before .args .keys .now) (c .before .before .before .before .before .before .before .before .before .args .first) (c .before .before .before .before .before .before .before .before .before .args .k) (c .before .before .before .before .before .before .before .before .before .args .p) (c .before .before .before .before .before .before .before .before .before .args .g) (c .before .before .before .before .key-end .ensures) (c .before .before .before .skip-line .ensures) (c .before .if3 .left) (c .met-before .ensures)
+returns-3 c = met-here (c .before .before .before .before .before .before .before .before .before .args .keys .now) (c .before .before .before .before .before .before .before .before .before .args .first) (c .before .before .before .before .before .before .before .before .before .args .k) (c .before .before .before .before .before .before .before .before .before .args .p) (c .before .before .before .before .before .before .before .before .before .args .g) (c .before .before .before .before .key-end .ensures) (c .before .before .before .skip-line .ensures) (c .before .if3 .left) (c .find .ensures)
 
 pub is-met-spec : {M : Type 1} → statement M
 is-met-spec =

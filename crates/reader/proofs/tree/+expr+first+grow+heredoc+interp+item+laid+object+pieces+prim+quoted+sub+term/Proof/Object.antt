@@ -2,7 +2,7 @@
 use mathlib.Core.Path.{_≡_, refl, _∙_}
 use native.Mathlib.Omega.{arith}
 use lib.ListN.{length}
-use Rattle.reader.proofs.ObjectTurns.{Turn, stood, close-room, inside-brace, object-deep, object-open-no, object-empty, turn-start, turn-no, object-end-no, object-end, turn-more}
+use Rattle.reader.proofs.ObjectTurns.{Turn, stood, close-room, inside-brace, object-deep, object-open-no, object-empty, turn-start, turn-no, turn-keeping, object-end-no, object-end, turn-more}
 use borrow.Author.Needs.{needs}
 use Prim.Native.Nat.{ℕ, _-_}
 use Rattle.reader.proofs.tree.item.Reads as item
@@ -46,7 +46,7 @@ module _ (t : ℕ) where
   returns-3 c = object-empty (c .before .before .before .before .before .before .before .before .before .before .before .before .before .before .before .args .s .now) (c .before .before .before .before .before .before .before .before .before .before .before .before .before .before .before .args .left) (c .before .before .before .before .before .before .before .before .before .before .before .before .before .before .before .args .lines) (c .before .before .before .before .before .before .before .before .before .before .before .before .before .before .before .args .i) (c .before .before .before .before .before .before .before .before .before .before .before .before .before .before .before .args .u) (c .before .before .before .before .before .before .before .before .before .before .before .before .before .before .before .args .p) (c .before .before .before .before .before .before .before .before .before .before .before .before .before .before .before .pre .1 .1) (c .before .before .before .before .before .before .before .before .before .before .before .before .before .before .before .pre .1 .0 .inside) (c .before .before .before .before .before .before .before .before .before .before .if1 .left) ((c .before .before .before .before .before .before .before .before .before .space .ensures .good) (c .before .before .before .before .before .before .before .if2 .left)) (c .before .before .before .before .before .before .before .before .before .space .ensures .low) (omega (arith, (c .before .before .before .before .before .before .before .before .before .space .ensures .high), inside-brace (c .before .before .before .before .before .before .before .before .before .before .before .before .before .before .before .args .s .now) (c .before .before .before .before .before .before .before .before .before .before .before .before .before .before .before .args .left) (c .before .before .before .before .before .before .before .before .before .before .before .before .before .before .before .args .lines) (c .before .before .before .before .before .before .before .before .before .before .before .before .before .before .before .args .i) (c .before .before .before .before .before .before .before .before .before .before .before .before .before .before .before .args .u) (c .before .before .before .before .before .before .before .before .before .before .before .before .before .before .before .args .p) (c .before .before .before .before .before .before .before .before .before .before .before .before .before .before .before .pre .1 .1) (c .before .before .before .before .before .before .before .before .before .before .before .before .before .before .before .pre .1 .0 .inside))) (stood (c .before .before .before .before .before .before .before .before .before .before .before .before .before .before .before .args .s .now) (c .before .before .before .before .before .before .before .before .before .space .result .at) (c .before .before .before .before .before .before .one-at .ensures) (c .before .before .before .before .before .if3 .taken)) (c .before .before .close .ensures .0) (c .before .before .close .ensures .1)
 
   loop-holds : object-lts.Need-loop-holds (calls t) (object-at t) object.Post Inv-loop μ-loop
-  loop-holds c = (turn-start (c .before .before .before .before .before .before .before .before .before .before .args .s .now) (c .before .before .before .before .before .before .before .before .before .before .args .left) (c .before .before .before .before .before .before .before .before .before .before .args .lines) (c .before .before .before .before .before .before .before .before .before .before .args .i) (c .before .before .before .before .before .before .before .before .before .before .args .u) (c .before .before .before .before .before .before .before .before .before .before .args .p) (c .before .before .before .before .before .before .before .before .before .before .pre .1 .1) (c .before .before .before .before .before .before .before .before .before .before .pre .1 .0 .inside) (c .before .before .before .before .before .if1 .left) ((c .before .before .before .before .space .ensures .good) (c .before .before .if2 .left)) (c .before .before .before .before .space .ensures .low) (omega (arith, (c .before .before .before .before .space .ensures .high), inside-brace (c .before .before .before .before .before .before .before .before .before .before .args .s .now) (c .before .before .before .before .before .before .before .before .before .before .args .left) (c .before .before .before .before .before .before .before .before .before .before .args .lines) (c .before .before .before .before .before .before .before .before .before .before .args .i) (c .before .before .before .before .before .before .before .before .before .before .args .u) (c .before .before .before .before .before .before .before .before .before .before .args .p) (c .before .before .before .before .before .before .before .before .before .before .pre .1 .1) (c .before .before .before .before .before .before .before .before .before .before .pre .1 .0 .inside))) (c .before .before .before .before .before .before .before .before .before .before .pre .1 .0 .opened) (stood (c .before .before .before .before .before .before .before .before .before .before .args .s .now) (c .before .before .before .before .space .result .at) (c .before .one-at .ensures) (c .if3 .left)), refl, refl)
+  loop-holds c = (turn-start (c .before .before .before .before .before .before .before .before .before .before .args .s .now) (c .before .before .before .before .before .before .before .before .before .before .args .left) (c .before .before .before .before .before .before .before .before .before .before .args .lines) (c .before .before .before .before .before .before .before .before .before .before .args .i) (c .before .before .before .before .before .before .before .before .before .before .args .u) (c .before .before .before .before .before .before .before .before .before .before .args .p) (c .before .before .before .before .before .before .before .before .before .before .pre .1 .1) (c .before .before .before .before .before .before .before .before .before .before .pre .1 .0 .inside) (c .before .before .before .before .before .if1 .left) ((c .before .before .before .before .space .ensures .good) (c .before .before .if2 .left)) (c .before .before .before .before .space .ensures .low) (omega (arith, (c .before .before .before .before .space .ensures .high), inside-brace (c .before .before .before .before .before .before .before .before .before .before .args .s .now) (c .before .before .before .before .before .before .before .before .before .before .args .left) (c .before .before .before .before .before .before .before .before .before .before .args .lines) (c .before .before .before .before .before .before .before .before .before .before .args .i) (c .before .before .before .before .before .before .before .before .before .before .args .u) (c .before .before .before .before .before .before .before .before .before .before .args .p) (c .before .before .before .before .before .before .before .before .before .before .pre .1 .1) (c .before .before .before .before .before .before .before .before .before .before .pre .1 .0 .inside))) (c .before .before .before .before .before .before .before .before .before .before .pre .1 .0 .opened) (c .before .before .before .before .before .before .before .before .before .before .pre .1 .0 .wide) (stood (c .before .before .before .before .before .before .before .before .before .before .args .s .now) (c .before .before .before .before .space .result .at) (c .before .one-at .ensures) (c .if3 .left)), refl, refl)
 
   add-item : object-lts.Need-add-item (calls t) (object-at t) object.Post Inv-loop μ-loop
   add-item c = omega (arith, (c .before .before .before .before .before .before .before .before .before .before .before .before .before .before .pre .1 .0 .small), (c .before .before .before .before .before .before .before .before .before .before .before .before .before .before .pre .1 .0 .few), (c .before .before .before .before .before .before .before .before .before .before .before .before .before .before .pre .1 .0 .used), (c .before .before .before .before .before .before .before .before .before .before .before .before .before .before .pre .1 .0 .wide), (c .before .before .before .loop .inv .0 .room), (c .before .before .before .loop .inv .0 .spent), (c .before .before .before .loop .inv .0 .high), (c .before .before .before .loop .inv .0 .few), (c .before .before .before .loop .inv .0 .low), (c .before .before .before .loop .inv .0 .kept .long))
@@ -58,7 +58,7 @@ module _ (t : ℕ) where
   sub-item c = omega (arith, (c .before .before .before .before .before .before .before .before .before .if1 .left))
 
   item-requires : object-lts.Need-item-requires (calls t) (object-at t) object.Post Inv-loop μ-loop
-  item-requires c κs = omega (arith, (c .before .before .before .before .before .before .before .before .before .before .before .before .before .before .pre .0), (c .before .before .before .before .before .before .before .before .before .if1 .left), (c .before .before .before .before .before .before .before .before .before .before .before .before .before .before .pre .1 .0 .small), (c .before .before .before .before .before .before .before .before .before .before .before .before .before .before .pre .1 .0 .few), (c .before .before .before .before .before .before .before .before .before .before .before .before .before .before .pre .1 .0 .used), (c .before .before .before .before .before .before .before .before .before .before .before .before .before .before .pre .1 .0 .wide), (c .before .before .before .loop .inv .0 .room), (c .before .before .before .loop .inv .0 .spent), (c .before .before .before .loop .inv .0 .high), (c .before .before .before .loop .inv .0 .few), (c .before .before .before .loop .inv .0 .low), (c .before .before .before .loop .inv .0 .kept .long))
+  item-requires c κs = (omega (arith, (c .before .before .before .before .before .before .before .before .before .before .before .before .before .before .pre .0), (c .before .before .before .before .before .before .before .before .before .if1 .left), (c .before .before .before .before .before .before .before .before .before .before .before .before .before .before .pre .1 .0 .small), (c .before .before .before .before .before .before .before .before .before .before .before .before .before .before .pre .1 .0 .few), (c .before .before .before .before .before .before .before .before .before .before .before .before .before .before .pre .1 .0 .used), (c .before .before .before .before .before .before .before .before .before .before .before .before .before .before .pre .1 .0 .wide), (c .before .before .before .loop .inv .0 .room), (c .before .before .before .loop .inv .0 .spent), (c .before .before .before .loop .inv .0 .high), (c .before .before .before .loop .inv .0 .few), (c .before .before .before .loop .inv .0 .low), (c .before .before .before .loop .inv .0 .kept .long)), (omega (arith, (c .before .before .before .before .before .before .before .before .before .before .before .before .before .before .pre .1 .0 .small), (c .before .before .before .before .before .before .before .before .before .before .before .before .before .before .pre .1 .0 .few), (c .before .before .before .before .before .before .before .before .before .before .before .before .before .before .pre .1 .0 .used), (c .before .before .before .before .before .before .before .before .before .before .before .before .before .before .pre .1 .0 .wide), (c .before .before .before .loop .inv .0 .room), (c .before .before .before .loop .inv .0 .spent), (c .before .before .before .loop .inv .0 .high), (c .before .before .before .loop .inv .0 .few), (c .before .before .before .loop .inv .0 .low), (c .before .before .before .loop .inv .0 .kept .long)), (c .before .before .before .loop .inv .0 .indexed)))
 
   same-length-2 : object-lts.Need-same-length-2 (calls t) (object-at t) object.Post Inv-loop μ-loop
   same-length-2 c = (c .before .before .before .before .before .before .before .before .item .kept .1 .0) ∙ (c .before .before .before .before .before .before .before .before .before .before .before .before .loop .inv .1)
@@ -109,13 +109,13 @@ module _ (t : ℕ) where
   returns-6 c = object-end (c .before .before .before .before .before .before .before .before .before .before .before .before .before .before .before .before .before .before .before .before .before .before .before .before .before .before .before .before .before .before .before .before .before .before .before .args .s .now) (c .before .before .before .before .before .before .before .before .before .before .before .before .before .before .before .before .before .before .before .before .before .before .before .before .before .before .before .before .before .before .before .before .before .before .before .args .left) (c .before .before .before .before .before .before .before .before .before .before .before .before .before .before .before .before .before .before .before .before .before .before .before .before .before .before .before .before .before .before .before .before .before .before .before .args .lines) (c .before .before .before .before .before .before .before .before .before .before .before .before .before .before .before .before .before .before .before .before .before .before .before .before .before .before .before .before .before .before .before .before .before .before .before .args .i) (c .before .before .before .before .before .before .before .before .before .before .before .before .before .before .before .before .before .before .before .before .before .before .before .before .before .before .before .before .before .before .before .before .before .before .before .args .u) (c .before .before .before .before .before .before .before .before .before .before .before .before .before .before .before .before .before .before .before .before .before .before .before .before .before .before .before .before .before .before .before .before .before .before .before .args .p) (c .before .before .before .before .before .before .before .before .before .before .before .before .before .before .before .before .before .before .before .before .before .before .before .before .before .before .before .before .before .before .before .before .before .before .before .pre .1 .1) (c .before .before .before .before .before .before .before .before .before .before .before .before .before .before .before .before .before .before .before .before .before .before .before .before .before .before .before .before .before .before .before .before .before .before .before .pre .1 .0 .inside) (c .before .before .before .before .before .before .before .before .before .before .before .before .before .before .before .before .before .before .before .before .before .before .before .before .loop .inv .0) (c .before .before .before .before .before .before .before .before .before .before .before .before .before .before .before .before .before .before .before .before .item .ensures) (c .before .before .before .before .before .before .before .before .before .before .before .before .if4 .left) ((c .before .before .before .before .before .before .before .before .before .behind .ensures .good) (c .before .before .before .before .before .before .before .if5 .left)) (c .before .before .before .before .before .before .before .before .before .behind .ensures .low) (omega (arith, (c .before .before .before .before .before .before .before .before .before .behind .ensures .high), (c .before .before .before .before .before .before .before .before .before .before .before .before .before .before .before .before .before .before .before .before .item .ensures .high))) (stood (c .before .before .before .before .before .before .before .before .before .before .before .before .before .before .before .before .before .before .before .before .before .before .before .before .before .before .before .before .before .before .before .before .before .before .before .args .s .now) (c .before .before .before .before .before .before .before .before .before .behind .result .at) (c .before .before .before .before .before .before .one-at2 .ensures) (c .before .before .before .before .before .if6 .taken)) (c .before .before .close2 .ensures .0) (c .before .before .close2 .ensures .1)
 
   keep-requires : object-lts.Need-keep-requires (calls t) (object-at t) object.Post Inv-loop μ-loop
-  keep-requires c κs = omega (arith, (c .before .before .before .before .before .before .before .before .before .before .before .before .before .before .before .before .before .before .before .before .before .before .before .before .before .before .before .before .before .before .before .pre .1 .0 .small), (c .before .before .before .before .before .before .before .before .before .before .before .before .before .before .before .before .before .before .before .before .before .before .before .before .before .before .before .before .before .before .before .pre .1 .0 .few), (c .before .before .before .before .before .before .before .before .before .before .before .before .before .before .before .before .before .before .before .before .before .before .before .before .before .before .before .before .before .before .before .pre .1 .0 .used), (c .before .before .before .before .before .before .before .before .before .before .before .before .before .before .before .before .before .before .before .before .before .before .before .before .before .before .before .before .before .before .before .pre .1 .0 .wide), (c .before .before .before .before .before .before .before .before .before .before .before .before .before .before .before .before .before .before .before .before .loop .inv .0 .room), (c .before .before .before .before .before .before .before .before .before .before .before .before .before .before .before .before .before .before .before .before .loop .inv .0 .spent), (c .before .before .before .before .before .before .before .before .before .before .before .before .before .before .before .before .before .before .before .before .loop .inv .0 .high), (c .before .before .before .before .before .before .before .before .before .before .before .before .before .before .before .before .before .before .before .before .loop .inv .0 .few), (c .before .before .before .before .before .before .before .before .before .before .before .before .before .before .before .before .before .before .before .before .loop .inv .0 .low), (c .before .before .before .before .before .before .before .before .before .before .before .before .before .before .before .before .before .before .before .before .loop .inv .0 .kept .long), (c .before .before .before .before .before .before .before .before .before .before .before .before .before .before .before .before .item .ensures .room), (c .before .before .before .before .before .before .before .before .before .before .before .before .before .before .before .before .item .ensures .spent), (c .before .before .before .before .before .before .before .before .before .before .before .before .before .before .before .before .item .ensures .high), (c .before .before .before .before .before .before .before .before .before .before .before .before .before .before .before .before .item .ensures .kept .long))
+  keep-requires c κs = turn-keeping (c .before .before .before .before .before .before .before .before .before .before .before .before .before .before .before .before .before .before .before .before .before .before .before .before .before .before .before .before .before .before .before .args .s .now) (c .before .before .before .before .before .before .before .before .before .before .before .before .before .before .before .before .before .before .before .before .before .before .before .before .before .before .before .before .before .before .before .args .left) (c .before .before .before .before .before .before .before .before .before .before .before .before .before .before .before .before .before .before .before .before .before .before .before .before .before .before .before .before .before .before .before .args .lines) (c .before .before .before .before .before .before .before .before .before .before .before .before .before .before .before .before .before .before .before .before .before .before .before .before .before .before .before .before .before .before .before .args .i) (c .before .before .before .before .before .before .before .before .before .before .before .before .before .before .before .before .before .before .before .before .before .before .before .before .before .before .before .before .before .before .before .args .u) (c .before .before .before .before .before .before .before .before .before .before .before .before .before .before .before .before .before .before .before .before .before .before .before .before .before .before .before .before .before .before .before .args .p) (c .before .before .before .before .before .before .before .before .before .before .before .before .before .before .before .before .before .before .before .before .before .before .before .before .before .before .before .before .before .before .before .pre .1 .1) (c .before .before .before .before .before .before .before .before .before .before .before .before .before .before .before .before .before .before .before .before .before .before .before .before .before .before .before .before .before .before .before .pre .1 .0 .inside) (c .before .before .before .before .before .before .before .before .before .before .before .before .before .before .before .before .before .before .before .before .loop .inv .0) (c .before .before .before .before .before .before .before .before .before .before .before .before .before .before .before .before .item .ensures) (c .before .before .before .before .before .before .before .before .if4 .left) (c .before .before .before .before .before .before .before .before .before .before .before .before .before .before .before .before .before .before .before .before .before .before .before .before .before .before .before .before .before .before .before .pre .1 .0 .small) (c .before .before .before .before .before .before .before .before .before .before .before .before .before .before .before .before .before .before .before .before .before .before .before .before .before .before .before .before .before .before .before .pre .1 .0 .wide)
 
   loop-less : object-lts.Need-loop-less (calls t) (object-at t) object.Post Inv-loop μ-loop
   loop-less c = omega (arith, (c .before .before .before .before .before .before .before .before .before .before .before .before .before .before .before .before .before .before .before .before .before .before .before .before .before .before .before .before .before .before .before .before .before .before .pre .1 .0 .small), (c .before .before .before .before .before .before .before .before .before .before .before .before .before .before .before .before .before .before .before .before .before .before .before .before .before .before .before .before .before .before .before .before .before .before .pre .1 .0 .few), (c .before .before .before .before .before .before .before .before .before .before .before .before .before .before .before .before .before .before .before .before .before .before .before .before .before .before .before .before .before .before .before .before .before .before .pre .1 .0 .used), (c .before .before .before .before .before .before .before .before .before .before .before .before .before .before .before .before .before .before .before .before .before .before .before .before .before .before .before .before .before .before .before .before .before .before .pre .1 .0 .wide), (c .before .before .before .before .before .before .before .before .before .before .before .before .before .before .before .before .before .before .before .before .before .before .before .loop .inv .0 .room), (c .before .before .before .before .before .before .before .before .before .before .before .before .before .before .before .before .before .before .before .before .before .before .before .loop .inv .0 .spent), (c .before .before .before .before .before .before .before .before .before .before .before .before .before .before .before .before .before .before .before .before .before .before .before .loop .inv .0 .high), (c .before .before .before .before .before .before .before .before .before .before .before .before .before .before .before .before .before .before .before .before .before .before .before .loop .inv .0 .few), (c .before .before .before .before .before .before .before .before .before .before .before .before .before .before .before .before .before .before .before .before .before .before .before .loop .inv .0 .low), (c .before .before .before .before .before .before .before .before .before .before .before .before .before .before .before .before .before .before .before .before .before .before .before .loop .inv .0 .kept .long), (c .before .before .before .before .before .before .before .before .before .before .before .before .before .before .before .before .before .before .before .item .ensures .room), (c .before .before .before .before .before .before .before .before .before .before .before .before .before .before .before .before .before .before .before .item .ensures .spent), (c .before .before .before .before .before .before .before .before .before .before .before .before .before .before .before .before .before .before .before .item .ensures .high), (c .before .before .before .before .before .before .before .before .before .before .before .before .before .before .before .before .before .before .before .item .ensures .kept .long), (c .before .before .before .before .before .before .before .before .behind .ensures .low), (c .before .before .before .before .before .before .before .before .behind .ensures .high), (c .before .before .before .before .before .before .before .before .before .before .before .before .before .before .before .before .before .before .before .item .ensures .long) (c .before .before .before .before .before .before .before .before .before .before .before .if4 .left))
 
   loop-again : object-lts.Need-loop-again (calls t) (object-at t) object.Post Inv-loop μ-loop
-  loop-again c = (turn-more (c .before .before .before .before .before .before .before .before .before .before .before .before .before .before .before .before .before .before .before .before .before .before .before .before .before .before .before .before .before .before .before .before .before .before .args .s .now) (c .before .before .before .before .before .before .before .before .before .before .before .before .before .before .before .before .before .before .before .before .before .before .before .before .before .before .before .before .before .before .before .before .before .before .args .left) (c .before .before .before .before .before .before .before .before .before .before .before .before .before .before .before .before .before .before .before .before .before .before .before .before .before .before .before .before .before .before .before .before .before .before .args .lines) (c .before .before .before .before .before .before .before .before .before .before .before .before .before .before .before .before .before .before .before .before .before .before .before .before .before .before .before .before .before .before .before .before .before .before .args .i) (c .before .before .before .before .before .before .before .before .before .before .before .before .before .before .before .before .before .before .before .before .before .before .before .before .before .before .before .before .before .before .before .before .before .before .args .u) (c .before .before .before .before .before .before .before .before .before .before .before .before .before .before .before .before .before .before .before .before .before .before .before .before .before .before .before .before .before .before .before .before .before .before .args .p) (c .before .before .before .before .before .before .before .before .before .before .before .before .before .before .before .before .before .before .before .before .before .before .before .before .before .before .before .before .before .before .before .before .before .before .pre .1 .1) (c .before .before .before .before .before .before .before .before .before .before .before .before .before .before .before .before .before .before .before .before .before .before .before .before .before .before .before .before .before .before .before .before .before .before .pre .1 .0 .inside) (c .before .before .before .before .before .before .before .before .before .before .before .before .before .before .before .before .before .before .before .before .before .before .before .loop .inv .0) (c .before .before .before .before .before .before .before .before .before .before .before .before .before .before .before .before .before .before .before .item .ensures) (c .before .before .before .before .before .before .before .before .before .before .before .if4 .left) ((c .before .before .before .before .before .before .before .before .behind .ensures .good) (c .before .before .before .before .before .before .if5 .left)) (c .before .before .before .before .before .before .before .before .behind .ensures .low) (omega (arith, (c .before .before .before .before .before .before .before .before .behind .ensures .high), (c .before .before .before .before .before .before .before .before .before .before .before .before .before .before .before .before .before .before .before .item .ensures .high))) (stood (c .before .before .before .before .before .before .before .before .before .before .before .before .before .before .before .before .before .before .before .before .before .before .before .before .before .before .before .before .before .before .before .before .before .before .args .s .now) (c .before .before .before .before .before .before .before .before .behind .result .at) (c .before .before .before .before .before .one-at2 .ensures) (c .before .before .before .before .if6 .left)) (omega (arith, (c .before .before .before .before .before .before .before .before .before .before .before .before .before .before .before .before .before .before .before .before .before .before .before .before .before .before .before .before .before .before .before .before .before .before .pre .1 .0 .small), (c .before .before .before .before .before .before .before .before .before .before .before .before .before .before .before .before .before .before .before .before .before .before .before .before .before .before .before .before .before .before .before .before .before .before .pre .1 .0 .few), (c .before .before .before .before .before .before .before .before .before .before .before .before .before .before .before .before .before .before .before .before .before .before .before .before .before .before .before .before .before .before .before .before .before .before .pre .1 .0 .used), (c .before .before .before .before .before .before .before .before .before .before .before .before .before .before .before .before .before .before .before .before .before .before .before .before .before .before .before .before .before .before .before .before .before .before .pre .1 .0 .wide), (c .before .before .before .before .before .before .before .before .before .before .before .before .before .before .before .before .before .before .before .before .before .before .before .loop .inv .0 .room), (c .before .before .before .before .before .before .before .before .before .before .before .before .before .before .before .before .before .before .before .before .before .before .before .loop .inv .0 .spent), (c .before .before .before .before .before .before .before .before .before .before .before .before .before .before .before .before .before .before .before .before .before .before .before .loop .inv .0 .high), (c .before .before .before .before .before .before .before .before .before .before .before .before .before .before .before .before .before .before .before .before .before .before .before .loop .inv .0 .few), (c .before .before .before .before .before .before .before .before .before .before .before .before .before .before .before .before .before .before .before .before .before .before .before .loop .inv .0 .low), (c .before .before .before .before .before .before .before .before .before .before .before .before .before .before .before .before .before .before .before .before .before .before .before .loop .inv .0 .kept .long), (c .before .before .before .before .before .before .before .before .before .before .before .before .before .before .before .before .before .before .before .item .ensures .room), (c .before .before .before .before .before .before .before .before .before .before .before .before .before .before .before .before .before .before .before .item .ensures .spent), (c .before .before .before .before .before .before .before .before .before .before .before .before .before .before .before .before .before .before .before .item .ensures .high), (c .before .before .before .before .before .before .before .before .before .before .before .before .before .before .before .before .before .before .before .item .ensures .kept .long))) (c .before .before .keep .ensures .keys) (c .before .before .keep .ensures .next), (c .before .before .before .before .before .before .before .before .before .before .before .before .before .before .before .before .before .before .before .item .kept .1 .0) ∙ (c .before .before .before .before .before .before .before .before .before .before .before .before .before .before .before .before .before .before .before .before .before .before .before .loop .inv .1), (c .before .before .before .before .before .before .before .before .before .before .before .before .before .before .before .before .before .before .before .item .kept .1 .1 .0) ∙ (c .before .before .before .before .before .before .before .before .before .before .before .before .before .before .before .before .before .before .before .before .before .before .before .loop .inv .2))
+  loop-again c = (turn-more (c .before .before .before .before .before .before .before .before .before .before .before .before .before .before .before .before .before .before .before .before .before .before .before .before .before .before .before .before .before .before .before .before .before .before .args .s .now) (c .before .before .before .before .before .before .before .before .before .before .before .before .before .before .before .before .before .before .before .before .before .before .before .before .before .before .before .before .before .before .before .before .before .before .args .left) (c .before .before .before .before .before .before .before .before .before .before .before .before .before .before .before .before .before .before .before .before .before .before .before .before .before .before .before .before .before .before .before .before .before .before .args .lines) (c .before .before .before .before .before .before .before .before .before .before .before .before .before .before .before .before .before .before .before .before .before .before .before .before .before .before .before .before .before .before .before .before .before .before .args .i) (c .before .before .before .before .before .before .before .before .before .before .before .before .before .before .before .before .before .before .before .before .before .before .before .before .before .before .before .before .before .before .before .before .before .before .args .u) (c .before .before .before .before .before .before .before .before .before .before .before .before .before .before .before .before .before .before .before .before .before .before .before .before .before .before .before .before .before .before .before .before .before .before .args .p) (c .before .before .before .before .before .before .before .before .before .before .before .before .before .before .before .before .before .before .before .before .before .before .before .before .before .before .before .before .before .before .before .before .before .before .pre .1 .1) (c .before .before .before .before .before .before .before .before .before .before .before .before .before .before .before .before .before .before .before .before .before .before .before .before .before .before .before .before .before .before .before .before .before .before .pre .1 .0 .inside) (c .before .before .before .before .before .before .before .before .before .before .before .before .before .before .before .before .before .before .before .before .before .before .before .loop .inv .0) (c .before .before .before .before .before .before .before .before .before .before .before .before .before .before .before .before .before .before .before .item .ensures) (c .before .before .before .before .before .before .before .before .before .before .before .if4 .left) ((c .before .before .before .before .before .before .before .before .behind .ensures .good) (c .before .before .before .before .before .before .if5 .left)) (c .before .before .before .before .before .before .before .before .behind .ensures .low) (omega (arith, (c .before .before .before .before .before .before .before .before .behind .ensures .high), (c .before .before .before .before .before .before .before .before .before .before .before .before .before .before .before .before .before .before .before .item .ensures .high))) (stood (c .before .before .before .before .before .before .before .before .before .before .before .before .before .before .before .before .before .before .before .before .before .before .before .before .before .before .before .before .before .before .before .before .before .before .args .s .now) (c .before .before .before .before .before .before .before .before .behind .result .at) (c .before .before .before .before .before .one-at2 .ensures) (c .before .before .before .before .if6 .left)) (c .before .before .keep .ensures), (c .before .before .before .before .before .before .before .before .before .before .before .before .before .before .before .before .before .before .before .item .kept .1 .0) ∙ (c .before .before .before .before .before .before .before .before .before .before .before .before .before .before .before .before .before .before .before .before .before .before .before .loop .inv .1), (c .before .before .before .before .before .before .before .before .before .before .before .before .before .before .before .before .before .before .before .item .kept .1 .1 .0) ∙ (c .before .before .before .before .before .before .before .before .before .before .before .before .before .before .before .before .before .before .before .before .before .before .before .loop .inv .2))
 
   pub met : {M : Type 1} → object-lts.Closed (calls t) (object-at t) object.Post M
   met = object-lts.spec (calls t) (object-at t) object.Post

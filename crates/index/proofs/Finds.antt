@@ -1,0 +1,103 @@
+-- Laws on the search: each equal key that is left is on the path that is left.
+use Prim.Native.Nat.{ℕ, zero, suc, _+_, _-_, _*_, _/_, _%_, _≤_, _<_}
+use mathlib.Core.Path.{_≡_, refl, sym, ap, subst, _∙_}
+use mathlib.Core.List.{List, [], _∷_}
+use mathlib.Core.Bool.{Bool, true, false, _||_}
+use native.Mathlib.Omega.{arith}
+use lib.ListN.{length, getD}
+use Rattle.lexis.specs.Keys.{among, sameKey}
+use Rattle.lexis.specs.RunLaws.{clash}
+use Rattle.index.specs.Mark.{markAt}
+use Rattle.index.specs.MarkLaws.{same-mark}
+use Rattle.index.specs.Index.{startIn, markIn, childIn, startsOf, starts, Path, here, on, Slot, Asks, Indexed}
+
+-- a key among some, and none
+or-here : (x y : Bool) → x ≡ true → (x || y) ≡ true
+or-here true y e = refl
+or-here false y e = clash (sym e)
+
+or-there : (x y : Bool) → y ≡ true → (x || y) ≡ true
+or-there true y e = refl
+or-there false y e = e
+
+among-yes : (s y : List ℕ) (p n j i : ℕ) → j ≤ i → i < j + n → sameKey s (startIn y i) p ≡ true → among s (startsOf y j n) p ≡ true
+unfolding among startsOf
+among-yes s y p zero j i a b e = absurd (omega arith)
+among-yes s y p (suc n) j i a b e = go (i - j) refl (λ h. among-yes s y p n (suc j) i h (omega arith) e)
+  where
+    go : (d : ℕ) → i - j ≡ d → (suc j ≤ i → among s (startsOf y (suc j) n) p ≡ true) → among s (startsOf y j (suc n)) p ≡ true
+    go zero f r = let z : i ≡ j = omega arith in or-here (sameKey s (startIn y j) p) (among s (startsOf y (suc j) n) p) (rw z at e)
+    go (suc d) f r = or-there (sameKey s (startIn y j) p) (among s (startsOf y (suc j) n) p) (r (omega arith))
+
+among-no : (s y : List ℕ) (p n j : ℕ) → ((i : ℕ) → j ≤ i → i < j + n → sameKey s (startIn y i) p ≡ false) → among s (startsOf y j n) p ≡ false
+unfolding among startsOf
+among-no s y p zero j h = refl
+among-no s y p (suc n) j h = rw (h j (omega arith) (omega arith)) (among-no s y p n (suc j) (λ i a b. h i (omega arith) (omega arith)))
+
+-- another mark, and so another key
+pub asks-other : {s y : List ℕ} {j m p : ℕ} → Asks s y j m p → ¬ (markIn y j ≡ m) → false ≡ sameKey s (startIn y j) p
+asks-other {s} {y} {j} {m} {p} g n = go (sameKey s (startIn y j) p) refl
+  where
+    go : (x : Bool) → sameKey s (startIn y j) p ≡ x → false ≡ sameKey s (startIn y j) p
+    go false f = sym f
+    go true f = absurd (n (g .slot ∙ same-mark s (startIn y j) p f ∙ sym (g .key)))
+
+-- the search for the key at p, at the slot j with h left of its mark: each equal key is ahead
+pub record Seeking (s y : List ℕ) (first k p h j : ℕ) : Type 0 where
+  pub low : first ≤ j
+  pub high : j < k
+  pub ahead : (i : ℕ) → first ≤ i → i < k → sameKey s (startIn y i) p ≡ true → (r : ℕ) × Path y h j r i
+
+module _ {s y : List ℕ} {first k : ℕ} (g : Indexed s y first k) where
+  pub seek-none : (p : ℕ) → k ≤ first → false ≡ among s (starts y first k) p
+  unfolding among startsOf
+  seek-none p h = let z : k - first ≡ 0 = omega arith in rw z
+
+  pub seek-start : (p : ℕ) {m : ℕ} → first < k → m ≡ markAt s p → Seeking s y first k p m first
+  seek-start p h e = record {
+    low = omega arith;
+    high = h;
+    ahead = λ i a b f.
+        let t = g .slots i a b in
+        let z : markAt s (startIn y i) ≡ markAt s p = same-mark s (startIn y i) p f in
+        (t .rest, rw (e, ← z) (t .path));
+  }
+
+  -- the key of a slot is equal
+  pub seek-met : {p h j : ℕ} → Seeking s y first k p h j → sameKey s (startIn y j) p ≡ true → true ≡ among s (starts y first k) p
+  seek-met {p} {h} {j} w e = sym (among-yes s y p (k - first) first j (w .low) (omega (arith, w .high)) e)
+
+  pub seek-asks : {p h j m : ℕ} → Seeking s y first k p h j → m ≡ markAt s p → Asks s y j m p
+  seek-asks w e = record { room = omega (arith, w .high, g .room); slot = (g .slots _ (w .low) (w .high)) .marked; key = e }
+
+  module _ {p h j : ℕ} (w : Seeking s y first k p h j) (e : sameKey s (startIn y j) p ≡ false) where
+    -- the path that is left of one of the keys
+    left : {i r : ℕ} → sameKey s (startIn y i) p ≡ true → Path y h j r i → (¬ (childIn y j h ≡ 0)) × Path y (h / 2) (childIn y j h) r i
+    left f here = clash (sym f ∙ e)
+    left f (on n q) = (n, q)
+
+    pub seek-end : childIn y j h ≡ 0 → false ≡ among s (starts y first k) p
+    seek-end z = sym (among-no s y p (k - first) first (λ i a b. go i (omega arith) (omega arith) (sameKey s (startIn y i) p) refl))
+      where
+        go : (i : ℕ) → first ≤ i → i < k → (x : Bool) → sameKey s (startIn y i) p ≡ x → sameKey s (startIn y i) p ≡ false
+        go i a b false f = f
+        go i a b true f = absurd ((left f ((w .ahead i a b f) .1)) .0 z)
+
+    pub seek-less : {c : ℕ} → c ≡ childIn y j h → ¬ (c ≡ 0) → (j < c) × (c < k)
+    seek-less d n = let b = (g .slots j (w .low) (w .high)) .behind h (λ z. n (d ∙ z)) in (omega arith, omega arith)
+
+    pub seek-more : {c : ℕ} → c ≡ childIn y j h → ¬ (c ≡ 0) → Seeking s y first k p (h / 2) c
+    seek-more {c} d n =
+        let b = seek-less d n in
+        record {
+          low = omega (arith, w .low);
+          high = omega arith;
+          ahead = λ i a b f. let v = w .ahead i a b f in (v .0, rw d ((left f (v .1)) .1));
+        }
+
+-- the number that the code reads
+pub child-read : (y : List ℕ) (j h w r : ℕ) → w ≡ h % 2 → r ≡ getD y (4 * j + 2 + w) 0 → r ≡ childIn y j h
+child-read y j h w r e f = f ∙ ap (λ (x : ℕ). getD y (4 * j + 2 + x) 0) e
+
+pub start-read : (s y : List ℕ) (j p a : ℕ) {r : Bool} → a ≡ startIn y j → r ≡ sameKey s a p → r ≡ sameKey s (startIn y j) p
+start-read s y j p a e f = f ∙ ap (λ (x : ℕ). sameKey s x p) e

@@ -1,0 +1,4 @@
+pub mod Mark
+pub mod Index
+pub mod MarkLaws
+pub mod IndexLaws
