@@ -276,6 +276,9 @@ module _ {s : List ℕ} {p : ℕ} {lines : Bool} {g : Gap} (h : Gapped lines s p
   unfolding followAt
   followed left = ap (λ (x : Gap). kindOf (followIn s x)) (sym (h .is))
 
+  pub follow-still : g .unclosed ≡ false → choose (follows s (g .at)) ≡ none → Follow s p lines 0
+  follow-still u e left = sym (followed left ∙ rw (u, e))
+
   pub follow-open : g .unclosed ≡ true → Follow s p lines 0
   follow-open u left = sym (followed left ∙ rw u)
 

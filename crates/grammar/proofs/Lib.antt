@@ -5,3 +5,4 @@ pub mod Leaves
 pub mod Walks
 pub mod Callings
 pub mod Heads
+pub mod Keys

@@ -1,13 +1,16 @@
 -- What `head_at` and `next_at` promise: besides the kind, the end of a token that is a whole node, and the end of a binary operator.
-use Prim.Native.Nat.{ℕ, _+_, _-_, _≤_}
+use Prim.Native.Nat.{ℕ, _+_, _-_, _≤_, _<_}
 use mathlib.Core.Path.{_≡_}
 use mathlib.Core.List.{List, [], _∷_}
-use mathlib.Core.Bool.{Bool}
+use mathlib.Core.Bool.{Bool, true, false}
 use lib.ListN.{length}
+use Rattle.lexis.specs.Bytes.{isStart, byteAt, stands}
+use Rattle.lexis.specs.Operator.{equalsTo, isMark}
 use Rattle.engine.specs.Layout.{Lay, fin, move, fork}
 use Rattle.grammar.specs.declared.picks.Head.{Head}
+use Rattle.grammar.specs.declared.picks.Key.{Key}
 use Rattle.grammar.specs.Kinds.{tightOf}
-use Rattle.grammar.specs.Moves.{Want, Under, to, no, walk, Move, gap, operator, here}
+use Rattle.grammar.specs.Moves.{Want, Under, to, no, walk, skip, keyTo, lone, Move, gap, operator, here}
 use Rattle.grammar.specs.Layouts.{Layout, layoutOf, operatorLay}
 use Rattle.grammar.specs.Hcl.{under}
 use Rattle.grammar.specs.Said.{TermAt, Follow}
@@ -39,3 +42,29 @@ pub record NextAt (s : List ℕ) (p : ℕ) (lines : Bool) (r : Head) : Type 0 wh
   pub lays : (r .end ≡ p → ⊥) → layoutOf (r .kind) ≡ operatorLay (r .kind) (tightOf (r .kind))
   pub low : p ≤ r .end
   pub high : r .end ≤ p + (length s - p)
+
+-- `r` is the sign at q: 1 `=`, but neither `=>` nor `==`; 2 `:`, but not `::`
+pub record SignOf (s : List ℕ) (q r : ℕ) : Type 0 where
+  pub equals : r ≡ 1 → equalsTo s q ≡ q + 1
+  pub colon : r ≡ 2 → (equalsTo s q ≡ q) × (isMark (58 ∷ []) ((58 ∷ 58 ∷ []) ∷ []) s q ≡ true)
+  pub few : r ≤ 2
+
+abbrev pub keyOf : ℕ → ℕ → ℕ → ℕ → Key
+keyOf k e q φ = record { kind = k; end = e; at = q; flag = φ }
+
+-- `r` is the key at p, where its end is not p: a word that is a whole expression, behind which no operator stands but, past same-line space, a sign
+pub record Word (s : List ℕ) (p : ℕ) (r : Key) : Type 0 where
+  pub starts : isStart (byteAt s p) ≡ true
+  pub head : HeadAt s p false (headOf (r .kind) (r .end))
+  pub still : Follow s (r .end) false 0
+  pub ends : r .end ≡ keyTo s p
+  pub alone : lone s p ≡ true
+  pub gap : skip s false (r .end) ≡ to (r .at)
+  pub sign : SignOf s (r .at) (r .flag + 1)
+  pub some : 1 ≤ r .kind
+  pub past : p < r .end
+  pub low : r .end ≤ r .at
+  pub high : r .at + 1 ≤ length s
+
+pub record KeyAt (s : List ℕ) (p : ℕ) (r : Key) : Type 0 where
+  pub word : (r .end ≡ p → ⊥) → Word s p r

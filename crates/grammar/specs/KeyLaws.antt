@@ -209,7 +209,7 @@ module _ (s : List ℕ) where
       let m : run isRest (drop p s) ≡ length w + run isRest (drop (p + length w) s) = n ∙ ap (λ (xs : List ℕ). length w + run isRest xs) d in
       rw e (omega arith)
 
-  start-digit : (b : ℕ) → isStart b ≡ true → isDigit b ≡ false
+  pub start-digit : (b : ℕ) → isStart b ≡ true → isDigit b ≡ false
   start-digit b e = go (leb 48 b) (leb b 57) refl refl
     where
       by : 48 ≤ b → b ≤ 57 → ⊥

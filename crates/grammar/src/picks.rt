@@ -22,13 +22,21 @@ ghost use Rattle.lexis.specs.Bytes.{isDigit};
 ghost use Rattle.lexis.specs.Trivia.{gapTo};
 ghost use Rattle.grammar.specs.Moves.{keyTo, lone};
 ghost use Rattle.grammar.specs.Hcl.{isBroken};
-ghost use Rattle.grammar.specs.Alone.{headOf, HeadAt, NextAt};
+ghost use Rattle.grammar.specs.Alone.{headOf, HeadAt, NextAt, keyOf, SignOf, KeyAt};
 ghost use Rattle.grammar.specs.Said.{TermAt, PartAt, Follow, byteBeyond, callsAt, wordKind, forBeyond, brokenAt, colonAt};
 
 // A kind, and the end of its token where that is looked at; else the place itself.
 pub struct Head {
     pub kind: u16,
     pub end: usize,
+}
+
+// A key that is a word with a sign behind it: its kind as a term, its end, the place of the sign, and 1 for `:`. The end is the key's start for any other key.
+pub struct Key {
+    pub kind: u16,
+    pub end: usize,
+    pub at: usize,
+    pub flag: usize,
 }
 
 // The byte behind the trivia from p; NOTHING where a comment in it is unclosed.
@@ -279,4 +287,53 @@ pub fn lone(s: &[u8], a: usize) -> bool
         return false;
     }
     byte_at(s, q + 1) != 58
+}
+
+// The sign at q that ends a lone key: 1 for `=`, 2 for `:`, 0 for none.
+fn sign_of(s: &[u8], q: usize) -> usize
+    ensures { λ r. ⌜ SignOf (now (s .entry)) q r ⌝ }
+{
+    if equals_end(s, q) != q {
+        return 1;
+    }
+    if byte_at(s, q) != 58 {
+        return 0;
+    }
+    if byte_at(s, q + 1) == 58 { 0 } else { 2 }
+}
+
+fn keyed(kind: u16, end: usize, at: usize, flag: usize) -> Key
+    ensures { λ r. ⌜ r ≡ keyOf kind end at flag ⌝ }
+{
+    Key {
+        kind,
+        end,
+        at,
+        flag,
+    }
+}
+
+// The key at p where it is a word alone with its sign behind it: most keys are, and are looked at once by this.
+pub fn key_at(s: &[u8], p: usize) -> Key
+    ensures { λ r. ⌜ KeyAt (now (s .entry)) p r ⌝ }
+{
+    let b = byte_at(s, p);
+    if !is_start(b) {
+        return keyed(Kind::NONE, p, p, 0);
+    }
+    let e = ident_end(s, p);
+    let g = skip_line(s, e);
+    let q = g.at;
+    if g.unclosed {
+        return keyed(Kind::NONE, p, p, 0);
+    }
+    let x = sign_of(s, q);
+    if x == 0 {
+        return keyed(Kind::NONE, p, p, 0);
+    }
+    let k = constant_at(s, p);
+    if k != 0 {
+        return keyed(k, e, q, x - 1);
+    }
+    keyed(Kind::VARIABLE, e, q, x - 1)
 }
