@@ -1,13 +1,13 @@
 // The earlier keys of an object: a trie over the bits of their marks, in lent numbers.
-use crate::mark::mark;
 use lexis::keys::same_key;
 ghost use mathlib.Core.Path.{_≡_};
 ghost use Prim.Native.Nat.{_+_, _*_, _≤_};
 ghost use lib.ListN.{length};
 ghost use Rattle.lexis.specs.Keys.{among, sameKey};
+ghost use Rattle.index.specs.Mark.{markAt};
 ghost use Rattle.index.specs.Index.{startIn, childIn, starts, Asks, Indexed, Fits, Inserted};
 
-mod mark;
+pub mod mark;
 
 fn wide(x: u16) -> usize
     ensures { λ r. ⌜ r ≡ x ⌝ }
@@ -35,15 +35,14 @@ fn holds(s: &[u8], keys: &[u16], j: usize, m: u16, p: usize) -> bool
     same_key(s, wide(keys[at]), p)
 }
 
-// Whether the key at p is equal to one of the slots from the first-th to before the k-th. Only the slots on the path of its mark are asked.
-pub fn find(s: &[u8], keys: &[u16], first: usize, k: usize, p: usize) -> bool
-    requires { ⌜ Indexed (now s) (now keys) first k ⌝ }
+// Whether the key at p, whose mark is m, is equal to one of the slots from the first-th to before the k-th. Only the slots on the path of its mark are asked.
+pub fn find(s: &[u8], keys: &[u16], first: usize, k: usize, p: usize, m: u16) -> bool
+    requires { ⌜ Indexed (now s) (now keys) first k × (m ≡ markAt (now s) p) ⌝ }
     ensures { λ r. ⌜ r ≡ among (now (s .entry)) (starts (now (keys .entry)) first k) p ⌝ }
 {
     if k <= first {
         return false;
     }
-    let m = mark(s, p);
     let mut h = m;
     let mut j = first;
     loop {
@@ -59,12 +58,11 @@ pub fn find(s: &[u8], keys: &[u16], first: usize, k: usize, p: usize) -> bool
     }
 }
 
-// The key at p goes into the k-th slot, which is linked where the path of its mark ends.
-pub fn insert(s: &[u8], keys: &mut [u16], first: usize, k: usize, p: usize)
-    requires { ⌜ Indexed (now s) (now keys) first k × Fits (now keys) k p ⌝ }
+// The key at p, whose mark is m, goes into the k-th slot, which is linked where the path of its mark ends.
+pub fn insert(s: &[u8], keys: &mut [u16], first: usize, k: usize, p: usize, m: u16)
+    requires { ⌜ Indexed (now s) (now keys) first k × Fits (now keys) k p × (m ≡ markAt (now s) p) ⌝ }
     ensures { λ _. ⌜ Inserted (now (s .entry)) (now (keys .entry)) (now (keys .exit)) first k p ⌝ }
 {
-    let m = mark(s, p);
     let at = 4 * k;
     keys[at] = p as u16;
     keys[at + 1] = m;

@@ -14,7 +14,7 @@ use Rattle.reader.specs.Items.{metIn, Keeping, Keeps}
 use Rattle.reader.specs.Said.{Kept}
 
 -- a key that may not be compared, and one that may
-module _ {s y : List ℕ} {first top q : ℕ} (g : Keeping s y first top q) where
+module _ {s y : List ℕ} {first top q m : ℕ} (g : Keeping s y first top q m) where
   pub keep-none : lone s q ≡ false → Keeps s y y first top q top
   keep-none e = record { indexed = g .indexed; keys = rw e; next = rw e; same = refl; long = refl }
 

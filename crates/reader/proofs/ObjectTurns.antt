@@ -16,6 +16,7 @@ use Rattle.engine.specs.Layout.{fin, move, kid, fork, rep, State, grammar, alia
 use Rattle.engine.specs.Way.{mid, Way, way-start, way-move, way-no, way-kid, way-kid-no, way-rep, way-rep-no}
 use Rattle.lexis.specs.Bytes.{byteAt, begins, stands, isForeign}
 use Rattle.lexis.specs.Keys.{among}
+use Rattle.index.specs.Mark.{markAt}
 use Rattle.index.specs.Index.{Indexed}
 use Rattle.index.specs.Index as index
 use Rattle.index.specs.IndexLaws.{indexed-none}
@@ -219,11 +220,12 @@ module _ (s : List ℕ) (left : ℕ) (lines : Bool) (i u p : ℕ) where
 
       module _ (ok : m .kind ≡ 0) where
         -- there is room for its key
-        pub turn-keeping : length s ≤ 65535 → 4 * length s ≤ 3 * length y₀ → Keeping s y′ k top q
-        turn-keeping small wide =
+        pub turn-keeping : {h : ℕ} → length s ≤ 65535 → 4 * length s ≤ 3 * length y₀ → h ≡ markAt s q → Keeping s y′ k top q h
+        turn-keeping small wide e =
             record {
               indexed = still-indexed (a .kept) (w .indexed);
               fits = record { room = omega (arith, keeps .long, w .few, a .long ok, a .high); few = omega (arith, w .few, w .high); small = omega (arith, w .high) };
+              mark = e;
             }
 
         taken : Object b b″ x x″ restLay (m .end) (n + m .count) (t + m .text) 1

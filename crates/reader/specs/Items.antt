@@ -13,6 +13,7 @@ use Rattle.grammar.specs.Table.{recordOf}
 use Rattle.grammar.specs.declared.moves.Went.{Went}
 use Rattle.grammar.specs.Said.{wentOf}
 use Rattle.lexis.specs.Keys.{among}
+use Rattle.index.specs.Mark.{markAt}
 use Rattle.index.specs.Index.{starts, Indexed, Fits}
 use Rattle.reader.specs.declared.items.Sign.{Sign}
 use Rattle.reader.specs.Buffer.{putAt}
@@ -68,10 +69,11 @@ pub record SignedAt (s y : List ℕ) (first k p e : ℕ) (r : Sign) : Type 0 whe
   pub high : p ≤ e → e ≤ length s → r .at ≤ length s
   pub small : r .flag ≤ 1
 
--- a key that starts at q can be put into the slot `top`
-pub record Keeping (s y : List ℕ) (first top q : ℕ) : Type 0 where
+-- a key that starts at q, whose mark is m, can be put into the slot `top`
+pub record Keeping (s y : List ℕ) (first top q m : ℕ) : Type 0 where
   pub indexed : Indexed s y first top
   pub fits : Fits y top q
+  pub mark : m ≡ markAt s q
 
 -- the item at q is the next: its key is put into the slot `top` where it may be compared, and the slots before the first-th are as they were
 pub record Keeps (s y y′ : List ℕ) (first top q r : ℕ) : Type 0 where

@@ -21,6 +21,7 @@ use lexis::word::constant_at;
 ghost use mathlib.Core.Path.{_≡_};
 ghost use mathlib.Core.Bool.{_&&_};
 ghost use lib.Dec.{eqb};
+ghost use Rattle.index.specs.Mark.{markAt};
 ghost use Rattle.index.specs.Index.{Indexed};
 ghost use Rattle.grammar.specs.Moves.{behindKey};
 ghost use Rattle.reader.specs.Items.{metIn, Behind, SignedAt, Keeping, Keeps, Baring, bared};
@@ -55,9 +56,9 @@ pub struct Sign {
     pub flag: usize,
 }
 
-// Whether the key at p is the token that stands before g alone, and was met before.
-fn is_met(s: &[u8], keys: &[u16], first: usize, k: usize, p: usize, g: usize) -> bool
-    requires { ⌜ Indexed (now s) (now keys) first k ⌝ }
+// Whether the key at p, whose mark is m, is the token that stands before g alone, and was met before.
+fn is_met(s: &[u8], keys: &[u16], first: usize, k: usize, p: usize, m: u16, g: usize) -> bool
+    requires { ⌜ Indexed (now s) (now keys) first k × (m ≡ markAt (now s) p) ⌝ }
     ensures { λ r. ⌜ r ≡ (eqb (behindKey (now (s .entry)) p) g && metIn (now (s .entry)) (now (keys .entry)) first k p) ⌝ }
 {
     let b = byte_at(s, p);
@@ -72,12 +73,12 @@ fn is_met(s: &[u8], keys: &[u16], first: usize, k: usize, p: usize, g: usize) ->
     if w.at != g {
         return false;
     }
-    find(s, keys, first, k, p)
+    find(s, keys, first, k, p, m)
 }
 
-// The sign after the key from p to e, whose object has the earlier keys in the slots from the first-th to before the k-th.
-pub fn sign_at(s: &[u8], keys: &[u16], first: usize, k: usize, p: usize, e: usize) -> Sign
-    requires { ⌜ Indexed (now s) (now keys) first k ⌝ }
+// The sign after the key from p to e, whose mark is m and whose object has the earlier keys in the slots from the first-th to before the k-th.
+pub fn sign_at(s: &[u8], keys: &[u16], first: usize, k: usize, p: usize, m: u16, e: usize) -> Sign
+    requires { ⌜ Indexed (now s) (now keys) first k × (m ≡ markAt (now s) p) ⌝ }
     ensures { λ r. ⌜ SignedAt (now (s .entry)) (now (keys .entry)) first k p e r ⌝ }
 {
     let g = space(s, e, false);
@@ -89,7 +90,7 @@ pub fn sign_at(s: &[u8], keys: &[u16], first: usize, k: usize, p: usize, e: usiz
             flag: 0,
         };
     }
-    if is_met(s, keys, first, k, p, at) {
+    if is_met(s, keys, first, k, p, m, at) {
         return Sign {
             kind: Refusal::DUPLICATE,
             at: p,
@@ -119,15 +120,15 @@ pub fn sign_at(s: &[u8], keys: &[u16], first: usize, k: usize, p: usize, e: usiz
     }
 }
 
-// The item that starts at q is the next of its object: its key goes into the slot `top` where it may be compared. The slot of the next.
-pub fn keep(s: &[u8], keys: &mut [u16], first: usize, top: usize, q: usize) -> usize
-    requires { ⌜ Keeping (now s) (now keys) first top q ⌝ }
+// The item that starts at q is the next of its object: its key, whose mark is m, goes into the slot `top` where it may be compared. The slot of the next.
+pub fn keep(s: &[u8], keys: &mut [u16], first: usize, top: usize, q: usize, m: u16) -> usize
+    requires { ⌜ Keeping (now s) (now keys) first top q m ⌝ }
     ensures { λ r. ⌜ Keeps (now (s .entry)) (now (keys .entry)) (now (keys .exit)) first top q r ⌝ }
 {
     if !lone(s, q) {
         return top;
     }
-    insert(s, keys, first, top, q);
+    insert(s, keys, first, top, q, m);
     top + 1
 }
 

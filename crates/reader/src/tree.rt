@@ -25,6 +25,7 @@ use grammar::program::Instr;
 use grammar::program::begin;
 use grammar::program::child;
 use grammar::program::instr;
+use index::mark::mark;
 use lexis::bytes::one_at;
 use lexis::heredoc::opener_at;
 use lexis::string::Why;
@@ -36,6 +37,7 @@ ghost use mathlib.Core.Option.{some};
 ghost use Prim.Native.Nat.{_≤_};
 ghost use lib.Dec.{eqb, T};
 ghost use Rattle.engine.specs.Base.{has};
+ghost use Rattle.index.specs.Mark.{markAt};
 ghost use Rattle.index.specs.Index.{Indexed};
 ghost use Rattle.grammar.specs.Said.{classes};
 ghost use Rattle.grammar.specs.Alone.{headOf, HeadAt, NextAt};
@@ -685,7 +687,8 @@ pub fn object(
     let mut t = 0;
     let mut top = k;
     loop {
-        let m = item(s, nodes, text, keys, i + n, u + t, top, k, q, left - 1);
+        let h = mark(s, q);
+        let m = item(s, nodes, text, keys, i + n, u + t, top, k, q, left - 1, h);
         if m.kind != 0 {
             return m;
         }
@@ -698,12 +701,12 @@ pub fn object(
         if one_at(s, c.at, 125) {
             return close(nodes, i, n, Kind::OBJECT, 0, p, c.at + 1, 0, t);
         }
-        top = keep(s, keys, k, top, q);
+        top = keep(s, keys, k, top, q, h);
         q = c.at;
     }
 }
 
-// An item at p, with the earlier keys of its object in the slots from the first-th to before the k-th.
+// An item at p, whose key has the mark h, with the earlier keys of its object in the slots from the first-th to before the k-th.
 pub fn item(
     s: &[u8],
     nodes: &mut [u16],
@@ -715,8 +718,9 @@ pub fn item(
     first: usize,
     p: usize,
     left: usize,
+    h: u16,
 ) -> Step
-    requires { ⌜ Asked (now s) (now keys) i u k p × Indexed (now s) (now keys) first k ⌝ }
+    requires { ⌜ Asked (now s) (now keys) i u k p × Indexed (now s) (now keys) first k × (h ≡ markAt (now s) p) ⌝ }
     ensures { λ r. ⌜ SaidItem (now (s .entry)) left i u k first p (now (nodes .entry)) (now (nodes .exit)) (now (text .entry)) (now (text .exit)) (now (keys .entry)) (now (keys .exit)) r ⌝ }
 {
     let m = expr(s, nodes, text, keys, i, u, k, p, left, false, 0);
@@ -724,7 +728,7 @@ pub fn item(
         return m;
     }
     bare(s, nodes, i, m.count, p, m.end);
-    let c = sign_at(s, keys, first, k, p, m.end);
+    let c = sign_at(s, keys, first, k, p, h, m.end);
     if c.kind != 0 {
         return refuse(c.kind, c.at);
     }

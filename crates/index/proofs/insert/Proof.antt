@@ -15,52 +15,52 @@ abbrev μ-loop : tie.MeasureT-loop
 μ-loop s keys₀ first k p m at h₀ j₀ keys h j = k - j
 
 cast-keys : tie.Need-cast-keys Inv-loop μ-loop
-cast-keys c = omega (arith, c .before .before .before .pre .1 .small)
+cast-keys c = omega (arith, c .before .before .pre .1 .small)
 
 mul-at : tie.Need-mul-at Inv-loop μ-loop
-mul-at c = omega (arith, c .before .before .before .pre .1 .few)
+mul-at c = omega (arith, c .before .before .pre .1 .few)
 
 slice-write-keys : tie.Need-slice-write-keys Inv-loop μ-loop
-slice-write-keys c = omega (arith, c .before .before .before .pre .1 .room)
+slice-write-keys c = omega (arith, c .before .before .pre .1 .room)
 
 slice-write-keys-2 : tie.Need-slice-write-keys-2 Inv-loop μ-loop
-slice-write-keys-2 c = simp length-set (omega (arith, c .before .before .before .pre .1 .room))
+slice-write-keys-2 c = simp length-set (omega (arith, c .before .before .pre .1 .room))
 
 slice-write-keys-3 : tie.Need-slice-write-keys-3 Inv-loop μ-loop
-slice-write-keys-3 c = simp length-set (omega (arith, c .before .before .before .pre .1 .room))
+slice-write-keys-3 c = simp length-set (omega (arith, c .before .before .pre .1 .room))
 
 slice-write-keys-4 : tie.Need-slice-write-keys-4 Inv-loop μ-loop
-slice-write-keys-4 c = simp length-set (omega (arith, c .before .before .before .pre .1 .room))
+slice-write-keys-4 c = simp length-set (omega (arith, c .before .before .pre .1 .room))
 
 same-length : tie.Need-same-length Inv-loop μ-loop
 same-length c = simp length-set
 
 returns : tie.Need-returns Inv-loop μ-loop
-returns c = insert-first (c .before .before .before .before .pre .0) (c .before .before .before .before .pre .1) (c .before .mark .ensures) refl (c .if1 .taken)
+returns c = insert-first (c .before .before .before .pre .0) (c .before .before .before .pre .1) (c .before .before .before .pre .2) refl (c .if1 .taken)
 
 loop-holds : tie.Need-loop-holds Inv-loop μ-loop
-loop-holds c = walk-start (c .before .before .before .before .pre .0) (c .before .before .before .before .pre .1) (c .before .mark .ensures) (omega (arith, c .if1 .left))
+loop-holds c = walk-start (c .before .before .before .pre .0) (c .before .before .before .pre .1) (c .before .before .before .pre .2) (omega (arith, c .if1 .left))
 
 child-requires : tie.Need-child-requires Inv-loop μ-loop
-child-requires c κs = walk-room (c .before .before .before .before .before .before .pre .0) (c .before .before .before .before .before .before .pre .1) (c .before .before .before .mark .ensures) (c .before .loop .inv)
+child-requires c κs = walk-room (c .before .before .before .before .before .pre .0) (c .before .before .before .before .before .pre .1) (c .before .before .before .before .before .pre .2) (c .before .loop .inv)
 
 add-keys-5 : tie.Need-add-keys-5 Inv-loop μ-loop
 add-keys-5 c = omega (arith, c .wide .ensures)
 
 slice-write-keys-5 : tie.Need-slice-write-keys-5 Inv-loop μ-loop
-slice-write-keys-5 c = omega (arith, c .wide .ensures, walk-room (c .before .before .before .before .before .before .before .before .before .pre .0) (c .before .before .before .before .before .before .before .before .before .pre .1) (c .before .before .before .before .before .before .mark .ensures) (c .before .before .before .before .loop .inv))
+slice-write-keys-5 c = omega (arith, c .wide .ensures, walk-room (c .before .before .before .before .before .before .before .before .pre .0) (c .before .before .before .before .before .before .before .before .pre .1) (c .before .before .before .before .before .before .before .before .pre .2) (c .before .before .before .before .loop .inv))
 
 same-length-2 : tie.Need-same-length-2 Inv-loop μ-loop
-same-length-2 c = (insert-linked (c .before .before .before .before .before .before .before .before .before .pre .0) (c .before .before .before .before .before .before .before .before .before .pre .1) (c .before .before .before .before .before .before .mark .ensures) (c .before .before .before .before .loop .inv) (sym (c .before .before .child .ensures) ∙ (c .before .if2 .taken)) _ (c .wide .ensures)) .long
+same-length-2 c = (insert-linked (c .before .before .before .before .before .before .before .before .pre .0) (c .before .before .before .before .before .before .before .before .pre .1) (c .before .before .before .before .before .before .before .before .pre .2) (c .before .before .before .before .loop .inv) (sym (c .before .before .child .ensures) ∙ (c .before .if2 .taken)) _ (c .wide .ensures)) .long
 
 returns-2 : tie.Need-returns-2 Inv-loop μ-loop
-returns-2 c = insert-linked (c .before .before .before .before .before .before .before .before .before .pre .0) (c .before .before .before .before .before .before .before .before .before .pre .1) (c .before .before .before .before .before .before .mark .ensures) (c .before .before .before .before .loop .inv) (sym (c .before .before .child .ensures) ∙ (c .before .if2 .taken)) _ (c .wide .ensures)
+returns-2 c = insert-linked (c .before .before .before .before .before .before .before .before .pre .0) (c .before .before .before .before .before .before .before .before .pre .1) (c .before .before .before .before .before .before .before .before .pre .2) (c .before .before .before .before .loop .inv) (sym (c .before .before .child .ensures) ∙ (c .before .if2 .taken)) _ (c .wide .ensures)
 
 loop-less : tie.Need-loop-less Inv-loop μ-loop
-loop-less c = omega (arith, walk-less (c .before .before .before .before .before .before .before .before .pre .0) (c .before .before .before .before .before .before .before .before .pre .1) (c .before .before .before .before .before .mark .ensures) (c .before .before .before .loop .inv) (c .before .child .ensures) (c .if2 .left))
+loop-less c = omega (arith, walk-less (c .before .before .before .before .before .before .before .pre .0) (c .before .before .before .before .before .before .before .pre .1) (c .before .before .before .before .before .before .before .pre .2) (c .before .before .before .loop .inv) (c .before .child .ensures) (c .if2 .left))
 
 loop-again : tie.Need-loop-again Inv-loop μ-loop
-loop-again c = walk-more (c .before .before .before .before .before .before .before .before .pre .0) (c .before .before .before .before .before .before .before .before .pre .1) (c .before .before .before .before .before .mark .ensures) (c .before .before .before .loop .inv) (c .before .child .ensures) (c .if2 .left)
+loop-again c = walk-more (c .before .before .before .before .before .before .before .pre .0) (c .before .before .before .before .before .before .before .pre .1) (c .before .before .before .before .before .before .before .pre .2) (c .before .before .before .loop .inv) (c .before .child .ensures) (c .if2 .left)
 
 pub insert-spec : {M : Type 1} → statement M
 insert-spec =
@@ -68,7 +68,6 @@ insert-spec =
     (tie.spec
     Inv-loop
     μ-loop
-    (λ c κs. search needs)
     mul-at
     cast-keys
     (λ c. search needs)

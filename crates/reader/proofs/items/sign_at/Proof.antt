@@ -16,8 +16,8 @@ returns-2 c = signed-met (c .before .before .before .before .before .before .bef
 returns-3 : tie.Need-returns-3
 returns-3 c = signed-equals (c .before .before .before .before .before .before .before .before .before .args .keys .now) (c .before .before .before .before .before .before .before .before .before .args .first) (c .before .before .before .before .before .before .before .before .before .args .k) (c .before .before .before .before .before .before .before .before .before .args .p) (c .before .before .before .before .before .before .space .ensures) (c .before .before .before .before .if1 .left) (c .before .before .before .is-met .ensures) (c .before .before .if2 .left) (c .before .equals-end .ensures) (c .if3 .taken)
 
-add-t14 : tie.Need-add-t14
-add-t14 c = omega (arith, stands-inside (58 ∷ []) (c .before .before .before .before .before .before .before .before .before .before .before .args .s .now) (c .before .before .before .before .before .before .before .before .space .result .at) (sym (c .before .one-at .ensures) ∙ (c .if4 .taken)))
+add-t15 : tie.Need-add-t15
+add-t15 c = omega (arith, stands-inside (58 ∷ []) (c .before .before .before .before .before .before .before .before .before .before .before .args .s .now) (c .before .before .before .before .before .before .before .before .space .result .at) (sym (c .before .one-at .ensures) ∙ (c .if4 .taken)))
 
 returns-4 : tie.Need-returns-4
 returns-4 c = signed-colon (c .before .before .before .before .before .before .before .before .before .before .before .args .keys .now) (c .before .before .before .before .before .before .before .before .before .before .before .args .first) (c .before .before .before .before .before .before .before .before .before .before .before .args .k) (c .before .before .before .before .before .before .before .before .before .before .before .args .p) (c .before .before .before .before .before .before .before .before .space .ensures) (c .before .before .before .before .before .before .if1 .left) (c .before .before .before .before .before .is-met .ensures) (c .before .before .before .before .if2 .left) (c .before .before .before .equals-end .ensures) (c .before .before .if3 .left) (sym (c .before .one-at .ensures) ∙ (c .if4 .taken))
@@ -36,7 +36,7 @@ sign-at-spec =
     (λ c κs. search needs)
     returns-3
     (λ c κs. search needs)
-    add-t14
+    add-t15
     returns-4
     (λ c κs. search needs)
     returns-5)

@@ -35,7 +35,7 @@ module _ (t : ℕ) where
   bare-requires c κs = omega (arith, (c .before .before .before .before .before .before .before .before .before .before .before .before .before .before .before .before .before .pre .1 .0 .small), (c .before .before .before .before .before .before .before .before .before .before .before .before .before .before .before .before .before .pre .1 .0 .inside), (c .before .before .before .before .before .before .before .before .before .before .before .before .before .before .before .before .before .pre .1 .0 .few), (c .before .before .before .before .before .before .before .before .before .before .before .before .before .before .before .before .before .pre .1 .0 .used), (c .before .before .before .before .before .before .before .before .before .before .before .before .before .before .before .before .before .pre .1 .0 .opened), (c .before .before .before .before .before .before .before .before .before .before .before .before .before .before .before .before .before .pre .1 .0 .wide), (c .before .before .before .before .before .before .before .before .before .expr .ensures .room), (c .before .before .before .before .before .before .before .before .before .expr .ensures .spent), (c .before .before .before .before .before .before .before .before .before .expr .ensures .high), (c .before .before .before .before .before .before .before .before .before .expr .ensures .kept .long))
 
   sign-at-requires : item-lts.Need-sign-at-requires (calls t) (item-at t) item.Post
-  sign-at-requires c κs = still-indexed (c .before .before .before .before .before .before .before .before .before .before .before .before .before .expr .ensures .kept) (c .before .before .before .before .before .before .before .before .before .before .before .before .before .before .before .before .before .before .before .before .before .pre .1 .1)
+  sign-at-requires c κs = (still-indexed (c .before .before .before .before .before .before .before .before .before .before .before .before .before .expr .ensures .kept) (c .before .before .before .before .before .before .before .before .before .before .before .before .before .before .before .before .before .before .before .before .before .pre .1 .1), (c .before .before .before .before .before .before .before .before .before .before .before .before .before .before .before .before .before .before .before .before .before .pre .1 .2))
 
   same-length-4 : item-lts.Need-same-length-4 (calls t) (item-at t) item.Post
   same-length-4 c = (c .before .before .before .before .before .before .before .bare .kept .1 .0) ∙ (c .before .before .before .before .before .before .before .before .before .before .before .before .before .before .before .before .before .expr .kept .1 .0)
