@@ -11,7 +11,8 @@ use borrow.Author.Tests.{eq-eqb, ne-eqb}
 use Rattle.lexis.specs.declared.trivia.Gap.{Gap}
 use Rattle.lexis.specs.Bytes.{byteAt, isDigit, isStart, isRest, stands, run, Byte, Ran}
 use Rattle.lexis.specs.Trivia.{gapTo, Gapped}
-use Rattle.lexis.specs.Word.{identTo, constantAt}
+use Rattle.lexis.specs.Word.{null, yes, isWord, identTo, constantAt}
+use Rattle.lexis.specs.Word as words
 use Rattle.lexis.specs.Operator.{equalsTo, isMark}
 use Rattle.lexis.specs.RunLaws.{inside, clash, stands-one, stands-two, stands-inside, and-left}
 use Rattle.engine.specs.Base.{choose}
@@ -48,6 +49,18 @@ sign-none s q = record { equals = λ z. absurd (omega arith); colon = λ z. absu
 
 pub key-none : {s : List ℕ} {p : ℕ} {r : Key} → r ≡ keyOf 0 p p 0 → KeyAt s p r
 key-none e = record { word = λ n. absurd (n (ap (λ (x : Key). x .end) e)) }
+
+constant-few : (s : List ℕ) (p k : ℕ) → k ≡ constantAt s p → k ≤ 3
+constant-few s p k e = go (isWord null s p) (isWord yes s p) (isWord words.no s p) e
+  where
+    go : (x y z : Bool) → k ≡ cond x 1 (cond y 2 (cond z 3 0)) → k ≤ 3
+    go true y z f = omega arith
+    go false true z f = omega arith
+    go false false true f = omega arith
+    go false false false f = omega arith
+
+constant-as : (k : ℕ) → k ≤ 3 → k ≡ cond (eqb k 5) 0 k
+constant-as k h = rw (ne-eqb k 5 (λ z. omega arith))
 
 or-last : (b : Bool) → (b || true) ≡ true
 or-last true = refl
@@ -91,14 +104,16 @@ module _ {s : List ℕ} {p e x : ℕ} {g : Gap} (st : isStart (byteAt s p) ≡ t
   gone : skip s false e ≡ to (g .at)
   gone = ap gapStep (sym (gp .is)) ∙ rw shut
 
-  word-as : (k : ℕ) → HeadAt s p false (headOf k e) → 1 ≤ k → {r : Key} → r ≡ keyOf k e (g .at) (x - 1) → KeyAt s p r
-  word-as k hd some q = rw q (record {
+  word-as : (k : ℕ) → HeadAt s p false (headOf k e) → constantAt s p ≡ cond (eqb k 5) 0 k → 1 ≤ k → {r : Key} → r ≡ keyOf k e (g .at) (x - 1) → KeyAt s p r
+  word-as k hd co some q = rw q (record {
     word = λ _. record {
       starts = st;
       head = hd;
       still = still;
       ends = to-key;
+      constant = co;
       alone = is-lone;
+      behind = behind-is;
       gap = gone;
       sign = subst (SignOf s (g .at)) (omega (arith, n)) sg;
       some = some;
@@ -110,7 +125,7 @@ module _ {s : List ℕ} {p e x : ℕ} {g : Gap} (st : isStart (byteAt s p) ≡ t
 
   module _ {k : ℕ} (c : k ≡ constantAt s p) {r : Key} where
     pub key-constant : (k ≡ 0 → ⊥) → r ≡ keyOf k e (g .at) (x - 1) → KeyAt s p r
-    key-constant m q = word-as k (head-constant false (start-digit s (byteAt s p) st) st h no-call refl c m refl) (omega (arith, m)) q
+    key-constant m q = word-as k (head-constant false (start-digit s (byteAt s p) st) st h no-call refl c m refl) (sym c ∙ constant-as k (constant-few s p k c)) (omega (arith, m)) q
 
     pub key-variable : k ≡ 0 → r ≡ keyOf 5 e (g .at) (x - 1) → KeyAt s p r
-    key-variable m q = word-as 5 (head-variable false (start-digit s (byteAt s p) st) st h no-call refl c m refl) (omega arith) q
+    key-variable m q = word-as 5 (head-variable false (start-digit s (byteAt s p) st) st h no-call refl c m refl) (sym c ∙ m) (omega arith) q

@@ -2,15 +2,17 @@
 use Prim.Native.Nat.{ℕ, _+_, _-_, _≤_, _<_}
 use mathlib.Core.Path.{_≡_}
 use mathlib.Core.List.{List, [], _∷_}
-use mathlib.Core.Bool.{Bool, true, false}
+use mathlib.Core.Bool.{Bool, true, false, cond}
 use lib.ListN.{length}
+use lib.Dec.{eqb}
 use Rattle.lexis.specs.Bytes.{isStart, byteAt, stands}
+use Rattle.lexis.specs.Word.{constantAt}
 use Rattle.lexis.specs.Operator.{equalsTo, isMark}
 use Rattle.engine.specs.Layout.{Lay, fin, move, fork}
 use Rattle.grammar.specs.declared.picks.Head.{Head}
 use Rattle.grammar.specs.declared.picks.Key.{Key}
 use Rattle.grammar.specs.Kinds.{tightOf}
-use Rattle.grammar.specs.Moves.{Want, Under, to, no, walk, skip, keyTo, lone, Move, gap, operator, here}
+use Rattle.grammar.specs.Moves.{Want, Under, to, no, walk, skip, keyTo, behindKey, lone, Move, gap, operator, here}
 use Rattle.grammar.specs.Layouts.{Layout, layoutOf, operatorLay}
 use Rattle.grammar.specs.Hcl.{under}
 use Rattle.grammar.specs.Said.{TermAt, Follow}
@@ -58,7 +60,9 @@ pub record Word (s : List ℕ) (p : ℕ) (r : Key) : Type 0 where
   pub head : HeadAt s p false (headOf (r .kind) (r .end))
   pub still : Follow s (r .end) false 0
   pub ends : r .end ≡ keyTo s p
+  pub constant : constantAt s p ≡ cond (eqb (r .kind) 5) 0 (r .kind)
   pub alone : lone s p ≡ true
+  pub behind : behindKey s p ≡ r .at
   pub gap : skip s false (r .end) ≡ to (r .at)
   pub sign : SignOf s (r .at) (r .flag + 1)
   pub some : 1 ≤ r .kind

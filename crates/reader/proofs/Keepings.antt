@@ -14,12 +14,12 @@ use Rattle.reader.specs.Items.{metIn, Keeping, Keeps}
 use Rattle.reader.specs.Said.{Kept}
 
 -- a key that may not be compared, and one that may
-module _ {s y : List ℕ} {first top q m : ℕ} (g : Keeping s y first top q m) where
+module _ {s y : List ℕ} {first top q m e : ℕ} (g : Keeping s y first top q m e) where
   pub keep-none : lone s q ≡ false → Keeps s y y first top q top
-  keep-none e = record { indexed = g .indexed; keys = rw e; next = rw e; same = refl; long = refl }
+  keep-none f = record { indexed = g .indexed; keys = rw f; next = rw f; same = refl; long = refl }
 
   pub keep-one : {y′ : List ℕ} → lone s q ≡ true → Inserted s y y′ first top q → Keeps s y y′ first top q (top + 1)
-  keep-one e h = record { indexed = h .indexed; keys = rw e (h .starts); next = rw e; same = h .same; long = h .long }
+  keep-one f h = record { indexed = h .indexed; keys = rw f (h .starts); next = rw f; same = h .same; long = h .long }
 
 or-swap : (a b c : Bool) → (a || (b || c)) ≡ (b || (a || c))
 or-swap true true c = refl

@@ -18,6 +18,7 @@ mod Bares
 mod Objects
 mod Entries
 mod Keepings
+mod Nameds
 mod ObjectTurns
 mod Wholly
 mod Nodes

@@ -21,6 +21,8 @@ use Rattle.index.specs.Index.{Indexed}
 use Rattle.index.specs.Index as index
 use Rattle.index.specs.IndexLaws.{indexed-none}
 use Rattle.lexis.specs.RunLaws.{inside, next, clash, stands-one}
+use Rattle.grammar.specs.declared.picks.Key.{Key}
+use Rattle.grammar.specs.Alone.{KeyAt}
 use Rattle.grammar.specs.Kinds.{Deep, Foreign, Unexpected}
 use Rattle.grammar.specs.Moves.{Under, to, no, when, unexpected, skip, place, lone, lones, anExpression, anItem, Move, walk, atom}
 use Rattle.grammar.specs.Layouts.{Class, entry, Layout, layouts, layoutOf, objectLay, opening, past, space}
@@ -220,12 +222,13 @@ module _ (s : List ℕ) (left : ℕ) (lines : Bool) (i u p : ℕ) where
 
       module _ (ok : m .kind ≡ 0) where
         -- there is room for its key
-        pub turn-keeping : {h : ℕ} → length s ≤ 65535 → 4 * length s ≤ 3 * length y₀ → h ≡ markAt s q → Keeping s y′ k top q h
-        turn-keeping small wide e =
+        pub turn-keeping : {h : ℕ} {κ : Key} → length s ≤ 65535 → 4 * length s ≤ 3 * length y₀ → h ≡ markAt s q → KeyAt s q κ → Keeping s y′ k top q h (κ .end)
+        turn-keeping small wide e κ-at =
             record {
               indexed = still-indexed (a .kept) (w .indexed);
               fits = record { room = omega (arith, keeps .long, w .few, a .long ok, a .high); few = omega (arith, w .few, w .high); small = omega (arith, w .high) };
               mark = e;
+              alone = λ far. κ-at .word far .alone;
             }
 
         taken : Object b b″ x x″ restLay (m .end) (n + m .count) (t + m .text) 1

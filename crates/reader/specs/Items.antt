@@ -69,11 +69,12 @@ pub record SignedAt (s y : List ℕ) (first k p e : ℕ) (r : Sign) : Type 0 whe
   pub high : p ≤ e → e ≤ length s → r .at ≤ length s
   pub small : r .flag ≤ 1
 
--- a key that starts at q, whose mark is m, can be put into the slot `top`
-pub record Keeping (s y : List ℕ) (first top q m : ℕ) : Type 0 where
+-- a key that starts at q, whose mark is m, can be put into the slot `top`; where e is not q it is one that may be compared
+pub record Keeping (s y : List ℕ) (first top q m e : ℕ) : Type 0 where
   pub indexed : Indexed s y first top
   pub fits : Fits y top q
   pub mark : m ≡ markAt s q
+  pub alone : (e ≡ q → ⊥) → lone s q ≡ true
 
 -- the item at q is the next: its key is put into the slot `top` where it may be compared, and the slots before the first-th are as they were
 pub record Keeps (s y y′ : List ℕ) (first top q r : ℕ) : Type 0 where

@@ -24,6 +24,9 @@ ghost use lib.Dec.{eqb};
 ghost use Rattle.index.specs.Mark.{markAt};
 ghost use Rattle.index.specs.Index.{Indexed};
 ghost use Rattle.grammar.specs.Moves.{behindKey};
+ghost use Rattle.grammar.specs.Hcl.{bare};
+ghost use Rattle.grammar.specs.Table.{recordOf};
+ghost use Rattle.reader.specs.Buffer.{putAt};
 ghost use Rattle.reader.specs.Items.{metIn, Behind, SignedAt, Keeping, Keeps, Baring, bared};
 
 // What stands behind an item that ends at e: past what ends it and any trivia, the place of the next item or of the `}`.
@@ -120,11 +123,23 @@ pub fn sign_at(s: &[u8], keys: &[u16], first: usize, k: usize, p: usize, m: u16,
     }
 }
 
-// The item that starts at q is the next of its object: its key, whose mark is m, goes into the slot `top` where it may be compared. The slot of the next.
-pub fn keep(s: &[u8], keys: &mut [u16], first: usize, top: usize, q: usize, m: u16) -> usize
-    requires { ⌜ Keeping (now s) (now keys) first top q m ⌝ }
+// The item that starts at q is the next of its object: its key, whose mark is m, goes into the slot `top` where it may be compared, which is known where `end` is not q. The slot of the next.
+pub fn keep(
+    s: &[u8],
+    keys: &mut [u16],
+    first: usize,
+    top: usize,
+    q: usize,
+    m: u16,
+    end: usize,
+) -> usize
+    requires { ⌜ Keeping (now s) (now keys) first top q m end ⌝ }
     ensures { λ r. ⌜ Keeps (now (s .entry)) (now (keys .entry)) (now (keys .exit)) first top q r ⌝ }
 {
+    if end != q {
+        insert(s, keys, first, top, q, m);
+        return top + 1;
+    }
     if !lone(s, q) {
         return top;
     }
@@ -148,4 +163,16 @@ pub fn bare(s: &[u8], nodes: &mut [u16], i: usize, n: usize, p: usize, e: usize)
         return;
     }
     put(nodes, i, Kind::KEY, 0, p as u16, e as u16, 1, 0, 0);
+}
+
+// The record of a key that is a word from p to e, of a kind as a term: a constant keeps its kind.
+pub fn name(nodes: &mut [u16], i: usize, kind: u16, p: usize, e: usize)
+    requires { ⌜ Baring p e ⌝ }
+    ensures { λ _. ⌜ now (nodes .exit) ≡ putAt (now (nodes .entry)) i (recordOf (bare kind) 0 p e 1 (0, 0)) ⌝ }
+{
+    if kind == Kind::VARIABLE {
+        put(nodes, i, Kind::KEY, 0, p as u16, e as u16, 1, 0, 0);
+        return;
+    }
+    put(nodes, i, kind, 0, p as u16, e as u16, 1, 0, 0);
 }

@@ -3,6 +3,7 @@ use crate::Step;
 use crate::items::bare;
 use crate::items::behind;
 use crate::items::keep;
+use crate::items::name;
 use crate::items::sign_at;
 use crate::put::accept;
 use crate::put::close;
@@ -18,6 +19,7 @@ use grammar::moves::unexpected;
 use grammar::moves::walk;
 use grammar::picks::follow;
 use grammar::picks::head_at;
+use grammar::picks::key_at;
 use grammar::picks::next_at;
 use grammar::picks::part_at;
 use grammar::picks::term_at;
@@ -25,6 +27,7 @@ use grammar::program::Instr;
 use grammar::program::begin;
 use grammar::program::child;
 use grammar::program::instr;
+use index::find;
 use index::mark::mark;
 use lexis::bytes::one_at;
 use lexis::heredoc::opener_at;
@@ -40,7 +43,7 @@ ghost use Rattle.engine.specs.Base.{has};
 ghost use Rattle.index.specs.Mark.{markAt};
 ghost use Rattle.index.specs.Index.{Indexed};
 ghost use Rattle.grammar.specs.Said.{classes};
-ghost use Rattle.grammar.specs.Alone.{headOf, HeadAt, NextAt};
+ghost use Rattle.grammar.specs.Alone.{headOf, HeadAt, NextAt, keyOf, Word, KeyAt};
 ghost use Rattle.grammar.specs.Moves.{anExpression};
 ghost use Rattle.grammar.specs.Layouts.{layoutOf, textLay};
 ghost use Rattle.grammar.specs.Hcl.{under, pickAt};
@@ -688,7 +691,24 @@ pub fn object(
     let mut top = k;
     loop {
         let h = mark(s, q);
-        let m = item(s, nodes, text, keys, i + n, u + t, top, k, q, left - 1, h);
+        let w = key_at(s, q);
+        let m = item(
+            s,
+            nodes,
+            text,
+            keys,
+            i + n,
+            u + t,
+            top,
+            k,
+            q,
+            left - 1,
+            h,
+            w.kind,
+            w.end,
+            w.at,
+            w.flag,
+        );
         if m.kind != 0 {
             return m;
         }
@@ -701,12 +721,12 @@ pub fn object(
         if one_at(s, c.at, 125) {
             return close(nodes, i, n, Kind::OBJECT, 0, p, c.at + 1, 0, t);
         }
-        top = keep(s, keys, k, top, q, h);
+        top = keep(s, keys, k, top, q, h, w.end);
         q = c.at;
     }
 }
 
-// An item at p, whose key has the mark h, with the earlier keys of its object in the slots from the first-th to before the k-th.
+// An item at p, whose key has the mark h and is a word where `end` is not p, with the earlier keys of its object in the slots from the first-th to before the k-th.
 pub fn item(
     s: &[u8],
     nodes: &mut [u16],
@@ -719,10 +739,33 @@ pub fn item(
     p: usize,
     left: usize,
     h: u16,
+    kind: u16,
+    end: usize,
+    at: usize,
+    flag: usize,
 ) -> Step
-    requires { ⌜ Asked (now s) (now keys) i u k p × Indexed (now s) (now keys) first k × (h ≡ markAt (now s) p) ⌝ }
+    requires { ⌜ Asked (now s) (now keys) i u k p × Indexed (now s) (now keys) first k × (h ≡ markAt (now s) p) × KeyAt (now s) p (keyOf kind end at flag) ⌝ }
     ensures { λ r. ⌜ SaidItem (now (s .entry)) left i u k first p (now (nodes .entry)) (now (nodes .exit)) (now (text .entry)) (now (text .exit)) (now (keys .entry)) (now (keys .exit)) r ⌝ }
 {
+    if end != p {
+        return named(
+            s,
+            nodes,
+            text,
+            keys,
+            i,
+            u,
+            k,
+            first,
+            p,
+            left,
+            h,
+            kind,
+            end,
+            at,
+            flag,
+        );
+    }
     let m = expr(s, nodes, text, keys, i, u, k, p, left, false, 0);
     if m.kind != 0 {
         return m;
@@ -763,4 +806,40 @@ pub fn item(
         0,
         m.text + v.text,
     )
+}
+
+// An item whose key is a word from p to `end`, of a kind as a term, with a sign at `at`.
+pub fn named(
+    s: &[u8],
+    nodes: &mut [u16],
+    text: &mut [u8],
+    keys: &mut [u16],
+    i: usize,
+    u: usize,
+    k: usize,
+    first: usize,
+    p: usize,
+    left: usize,
+    h: u16,
+    kind: u16,
+    end: usize,
+    at: usize,
+    flag: usize,
+) -> Step
+    requires { ⌜ Asked (now s) (now keys) i u k p × Indexed (now s) (now keys) first k × (h ≡ markAt (now s) p) × Word (now s) p (keyOf kind end at flag) ⌝ }
+    ensures { λ r. ⌜ SaidItem (now (s .entry)) left i u k first p (now (nodes .entry)) (now (nodes .exit)) (now (text .entry)) (now (text .exit)) (now (keys .entry)) (now (keys .exit)) r ⌝ }
+{
+    name(nodes, i, kind, p, end);
+    if find(s, keys, first, k, p, h) {
+        return refuse(Refusal::DUPLICATE, p);
+    }
+    let g = space(s, at + 1, false);
+    if g.kind != 0 {
+        return refuse(g.kind, g.at);
+    }
+    let v = expr(s, nodes, text, keys, i + 1, u, k, g.at, left, false, 0);
+    if v.kind != 0 {
+        return v;
+    }
+    close(nodes, i, 1 + v.count, Kind::ITEM, flag, p, v.end, 0, v.text)
 }

@@ -6,8 +6,8 @@ use Rattle.reader.proofs.Quotes.{quoted-asked, quoted-texting, quoted-s
 use borrow.Author.Needs.{needs}
 use Rattle.reader.proofs.tree.pieces.Reads as pieces
 use Rattle.reader.proofs.tree.quoted.Reads as quoted
-use Rattle.reader.proofs.tree.+expr+first+grow+heredoc+interp+item+laid+object+pieces+prim+quoted+sub+term.Lts-quoted as quoted-lts
-use Rattle.reader.proofs.tree.+expr+first+grow+heredoc+interp+item+laid+object+pieces+prim+quoted+sub+term.Proof.Common.{quoted-at, pieces-below}
+use Rattle.reader.proofs.tree.+expr+first+grow+heredoc+interp+item+laid+named+object+pieces+prim+quoted+sub+term.Lts-quoted as quoted-lts
+use Rattle.reader.proofs.tree.+expr+first+grow+heredoc+interp+item+laid+named+object+pieces+prim+quoted+sub+term.Proof.Common.{quoted-at, pieces-below}
 
 -- what `quoted` calls, below the measure t
 abbrev calls : ℕ → quoted-lts.Claims

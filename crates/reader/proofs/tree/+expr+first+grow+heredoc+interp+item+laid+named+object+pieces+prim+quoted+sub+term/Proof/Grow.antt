@@ -7,14 +7,14 @@ use Rattle.reader.proofs.Answers.{kept-same}
 use Rattle.reader.proofs.Firsts.{grow-low, grow-high, grow-inside, grow-space, grow-no, grow-closing, grow-ok}
 use borrow.Author.Needs.{needs}
 use Rattle.reader.proofs.tree.grow.Reads as grow
-use Rattle.reader.proofs.tree.+expr+first+grow+heredoc+interp+item+laid+object+pieces+prim+quoted+sub+term.Lts-grow as grow-lts
+use Rattle.reader.proofs.tree.+expr+first+grow+heredoc+interp+item+laid+named+object+pieces+prim+quoted+sub+term.Lts-grow as grow-lts
 use Rattle.reader.proofs.tree.expr.Reads as expr
 use Rattle.reader.proofs.tree.laid.Reads as laid
 use Rattle.grammar.proofs.kinds.tight.Reads as tight-reads
 use Rattle.grammar.proofs.moves.space.Reads as space-reads
 use Rattle.reader.proofs.put.close.Reads as close-reads
 use Rattle.reader.proofs.put.refuse.Reads as refuse-reads
-use Rattle.reader.proofs.tree.+expr+first+grow+heredoc+interp+item+laid+object+pieces+prim+quoted+sub+term.Proof.Common.{grow-at, expr-below, laid-below}
+use Rattle.reader.proofs.tree.+expr+first+grow+heredoc+interp+item+laid+named+object+pieces+prim+quoted+sub+term.Proof.Common.{grow-at, expr-below, laid-below}
 
 -- what `grow` calls, below the measure t
 abbrev calls : ℕ → grow-lts.Claims

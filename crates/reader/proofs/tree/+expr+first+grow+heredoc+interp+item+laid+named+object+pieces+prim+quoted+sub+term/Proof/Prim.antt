@@ -12,10 +12,10 @@ use Rattle.reader.proofs.tree.heredoc.Reads as heredoc
 use Rattle.reader.proofs.tree.laid.Reads as laid
 use Rattle.reader.proofs.tree.object.Reads as object
 use Rattle.reader.proofs.tree.prim.Reads as prim
-use Rattle.reader.proofs.tree.+expr+first+grow+heredoc+interp+item+laid+object+pieces+prim+quoted+sub+term.Lts-prim as prim-lts
+use Rattle.reader.proofs.tree.+expr+first+grow+heredoc+interp+item+laid+named+object+pieces+prim+quoted+sub+term.Lts-prim as prim-lts
 use Rattle.reader.proofs.tree.quoted.Reads as quoted
 use Rattle.reader.proofs.text.string.Reads as string-reads
-use Rattle.reader.proofs.tree.+expr+first+grow+heredoc+interp+item+laid+object+pieces+prim+quoted+sub+term.Proof.Common.{prim-at, heredoc-below, laid-below, object-below, quoted-below}
+use Rattle.reader.proofs.tree.+expr+first+grow+heredoc+interp+item+laid+named+object+pieces+prim+quoted+sub+term.Proof.Common.{prim-at, heredoc-below, laid-below, object-below, quoted-below}
 
 -- what `prim` calls, below the measure t
 abbrev calls : ℕ → prim-lts.Claims

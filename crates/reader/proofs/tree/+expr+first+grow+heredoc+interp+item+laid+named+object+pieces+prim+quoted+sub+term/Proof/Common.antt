@@ -18,6 +18,8 @@ use Rattle.reader.proofs.tree.item.Reads as item
 use Rattle.reader.proofs.tree.item.Kinds as item-kinds
 use Rattle.reader.proofs.tree.laid.Reads as laid
 use Rattle.reader.proofs.tree.laid.Kinds as laid-kinds
+use Rattle.reader.proofs.tree.named.Reads as named
+use Rattle.reader.proofs.tree.named.Kinds as named-kinds
 use Rattle.reader.proofs.tree.object.Reads as object
 use Rattle.reader.proofs.tree.object.Kinds as object-kinds
 use Rattle.reader.proofs.tree.pieces.Reads as pieces
@@ -51,6 +53,9 @@ abbrev pub μ-item : Measures 4 item-kinds.ps ℕ
 
 abbrev pub μ-laid : Measures 4 laid-kinds.ps ℕ
 μ-laid κs a = 8388608 * a .1 .1 .1 .1 .1 .1 .1 .1 .1 .0 + 128 * (length (a .0 .now) - a .1 .1 .1 .1 .1 .1 .1 .1 .0) + 2 * (43 - a .1 .1 .1 .1 .1 .1 .1 .1 .1 .1 .1 .0)
+
+abbrev pub μ-named : Measures 4 named-kinds.ps ℕ
+μ-named κs a = 8388608 * a .1 .1 .1 .1 .1 .1 .1 .1 .1 .0 + 128 * (length (a .0 .now) - a .1 .1 .1 .1 .1 .1 .1 .1 .0) + 101
 
 abbrev pub μ-object : Measures 4 object-kinds.ps ℕ
 μ-object κs a = 8388608 * a .1 .1 .1 .1 .1 .1 .1 .1 .0 + 128 * (length (a .0 .now) - a .1 .1 .1 .1 .1 .1 .1 .0) + 94
@@ -111,6 +116,12 @@ laid-at t = and 4 laid-kinds.ps (is 4 laid-kinds.ps μ-laid t) laid.Pre
 
 abbrev pub laid-below : ℕ → In 4 laid-kinds.ps
 laid-below t = and 4 laid-kinds.ps (falls 4 laid-kinds.ps _<_ μ-laid t) laid.Pre
+
+abbrev pub named-at : ℕ → In 4 named-kinds.ps
+named-at t = and 4 named-kinds.ps (is 4 named-kinds.ps μ-named t) named.Pre
+
+abbrev pub named-below : ℕ → In 4 named-kinds.ps
+named-below t = and 4 named-kinds.ps (falls 4 named-kinds.ps _<_ μ-named t) named.Pre
 
 abbrev pub object-at : ℕ → In 4 object-kinds.ps
 object-at t = and 4 object-kinds.ps (is 4 object-kinds.ps μ-object t) object.Pre

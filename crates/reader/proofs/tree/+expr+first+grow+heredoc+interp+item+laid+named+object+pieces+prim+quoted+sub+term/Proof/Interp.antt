@@ -4,9 +4,9 @@ use native.Mathlib.Omega.{arith}
 use Rattle.grammar.specs.PickLaws.{interpolation-known}
 use borrow.Author.Needs.{needs}
 use Rattle.reader.proofs.tree.interp.Reads as interp
-use Rattle.reader.proofs.tree.+expr+first+grow+heredoc+interp+item+laid+object+pieces+prim+quoted+sub+term.Lts-interp as interp-lts
+use Rattle.reader.proofs.tree.+expr+first+grow+heredoc+interp+item+laid+named+object+pieces+prim+quoted+sub+term.Lts-interp as interp-lts
 use Rattle.reader.proofs.tree.laid.Reads as laid
-use Rattle.reader.proofs.tree.+expr+first+grow+heredoc+interp+item+laid+object+pieces+prim+quoted+sub+term.Proof.Common.{interp-at, laid-below}
+use Rattle.reader.proofs.tree.+expr+first+grow+heredoc+interp+item+laid+named+object+pieces+prim+quoted+sub+term.Proof.Common.{interp-at, laid-below}
 
 -- what `interp` calls, below the measure t
 abbrev calls : ℕ → interp-lts.Claims
