@@ -1,15 +1,15 @@
 -- Laws on the search: each equal key that is left is on the path that is left.
 use Prim.Native.Nat.{ℕ, zero, suc, _+_, _-_, _*_, _/_, _%_, _≤_, _<_}
-use mathlib.Core.Path.{_≡_, refl, sym, ap, subst, _∙_}
-use mathlib.Core.List.{List, [], _∷_}
+use mathlib.Core.Path.{_≡_, refl, sym, ap, _∙_}
+use mathlib.Core.List.{List}
 use mathlib.Core.Bool.{Bool, true, false, _||_}
 use native.Mathlib.Omega.{arith}
-use lib.ListN.{length, getD}
+use lib.ListN.{getD}
 use Rattle.lexis.specs.Keys.{among, sameKey}
 use Rattle.lexis.specs.RunLaws.{clash}
 use Rattle.index.specs.Mark.{markAt}
 use Rattle.index.specs.MarkLaws.{same-mark}
-use Rattle.index.specs.Index.{startIn, markIn, childIn, startsOf, starts, Path, here, on, Slot, Asks, Indexed}
+use Rattle.index.specs.Index.{startIn, markIn, childIn, startsOf, starts, Path, here, on, Asks, Indexed}
 
 -- a key among some, and none
 or-here : (x y : Bool) → x ≡ true → (x || y) ≡ true

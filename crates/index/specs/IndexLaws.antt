@@ -1,12 +1,12 @@
 -- What holds of an object's slots: they turn only on the numbers before the k-th slot, and no slots are the slots of an object without keys.
 use Prim.Native.Nat.{ℕ, zero, suc, _+_, _-_, _*_, _/_, _%_, _≤_, _<_}
-use mathlib.Core.Path.{_≡_, refl, sym, ap, subst, _∙_}
-use mathlib.Core.List.{List, [], _∷_, _++_}
+use mathlib.Core.Path.{_≡_, refl, sym, ap, _∙_}
+use mathlib.Core.List.{List}
 use native.Mathlib.Omega.{arith}
 use lib.ListN.{length, getD, take, length-take}
 use lib.Seq.{getD-take}
 use Rattle.index.specs.Mark.{markAt}
-use Rattle.index.specs.Index.{startIn, markIn, childIn, startsOf, starts, Path, here, on, Slot, Indexed}
+use Rattle.index.specs.Index.{startIn, childIn, startsOf, starts, Path, here, on, Slot, Indexed}
 
 -- the starts of slots that are the same
 pub starts-same : (y y′ : List ℕ) (n j : ℕ) → ((i : ℕ) → j ≤ i → i < j + n → startIn y′ i ≡ startIn y i) → startsOf y′ j n ≡ startsOf y j n

@@ -1,9 +1,8 @@
 -- Equal keys have one mark.
 use Prim.Native.Nat.{ℕ, _+_}
-use mathlib.Core.Path.{_≡_, refl, sym, ap, _∙_}
+use mathlib.Core.Path.{_≡_, refl, sym}
 use mathlib.Core.List.{List, [], _∷_}
 use mathlib.Core.Bool.{Bool, true, false, cond, _&&_}
-use native.Mathlib.Omega.{arith}
 use lib.ListN.{drop}
 use lib.Dec.{eqb}
 use borrow.Author.Tests.{eqb-true}

@@ -7,7 +7,7 @@ use native.Mathlib.Omega.{arith}
 use lib.ListN.{take}
 use lib.Seq.{take-take}
 use Rattle.lexis.specs.Keys.{among, sameKey}
-use Rattle.index.specs.Index.{starts, Indexed, Inserted}
+use Rattle.index.specs.Index.{starts, Inserted}
 use Rattle.index.specs.IndexLaws.{starts-kept}
 use Rattle.grammar.specs.Moves.{lone, lones}
 use Rattle.reader.specs.Items.{metIn, Keeping, Keeps}

@@ -1,7 +1,7 @@
 -- What the functions round an object's items find.
 use Prim.Native.Nat.{ℕ, zero, suc, _+_, _-_, _≤_, _<_}
 use mathlib.Core.Path.{_≡_, refl, sym, ap, _∙_}
-use mathlib.Core.Bool.{Bool, true, false, cond, not, _&&_, _||_}
+use mathlib.Core.Bool.{Bool, true, false, cond, not, _&&_, _||_, and-true}
 use mathlib.Core.List.{List, [], _∷_}
 use native.Mathlib.Omega.{arith}
 use lib.ListN.{length, drop}
@@ -13,9 +13,7 @@ use Rattle.lexis.specs.Bytes.{Byte, Ran, byteAt, begins, stands, isStart, isFor
 use Rattle.lexis.specs.Trivia.{Gapped, Stopped, gapTo, stop, stopAt, stopComment, lineComment, comment, ending, endsLine, startsComment}
 use Rattle.lexis.specs.Operator.{isMark, equalsTo}
 use Rattle.lexis.specs.Word.{constantAt}
-use Rattle.lexis.specs.Keys.{Key, word, plain, other, sameAs, keyAt, among}
 use Rattle.lexis.specs.RunLaws.{stands-one, stands-inside}
-use Rattle.index.specs.Index.{starts}
 use Rattle.grammar.specs.declared.moves.Went.{Went}
 use Rattle.grammar.specs.Kinds.{Unexpected, Foreign}
 use Rattle.grammar.specs.Moves.{Step, to, no, then, when, unexpected, skip, stopStep, marks, behindKey, keyTo, lone}
@@ -90,21 +88,7 @@ module _ {s : List ℕ} {e : ℕ} {g : Went} (sp : Moved s e false g) where
             high = omega (arith, sp .high, st .high, q .high);
           }
 
--- ---- keys that are neither words nor strings are not compared
-
-same-other : (k : Key) → sameAs k other ≡ false
-same-other (word a) = refl
-same-other (plain a) = refl
-same-other other = refl
-
-among-other : (s l : List ℕ) (p : ℕ) → keyAt s p ≡ other → among s l p ≡ false
-unfolding among
-among-other s [] p h = refl
-among-other s (a ∷ l) p h = rw (h, same-other (keyAt s a), among-other s l p h)
-
-key-other : (s : List ℕ) (p : ℕ) → isStart (byteAt s p) ≡ false → eqb (byteAt s p) 34 ≡ false → keyAt s p ≡ other
-unfolding keyAt
-key-other s p e f = rw (e, f)
+-- ---- keys that were met
 
 and-no : (x : Bool) → (x && false) ≡ false
 and-no true = refl
@@ -113,18 +97,15 @@ and-no false = refl
 key-place : {s : List ℕ} (p : ℕ) {e : ℕ} {w : Gap} → e ≡ keyTo s p → Gapped false s e w → w .at ≡ behindKey s p
 key-place {s} p key gap = ap (λ (x : Gap). x .at) (gap .is) ∙ ap (λ (x : ℕ). (gapTo false s x) .at) key
 
-module _ {s : List ℕ} (y : List ℕ) (first k p g : ℕ) where
-  pub not-met : {b : ℕ} → Byte s p b → ¬ (b ≡ 34) → isStart b ≡ false → false ≡ (eqb (behindKey s p) g && metIn s y first k p)
-  not-met {b} h n f =
-      let e : metIn s y first k p ≡ false = among-other s (starts y first k) p (key-other s p (rw (← h .is) f) (rw (← h .is) (ne-eqb b 34 n))) in
-      sym (rw e (and-no (eqb (behindKey s p) g)))
+module _ (s y : List ℕ) (first k p g : ℕ) {r : Bool} (f : r ≡ metIn s y first k p) where
+  pub not-met : r ≡ false → false ≡ (eqb (behindKey s p) g && metIn s y first k p)
+  not-met n = let h : metIn s y first k p ≡ false = sym f ∙ n in sym (rw h (and-no (eqb (behindKey s p) g)))
 
-  module _ {e : ℕ} {w : Gap} (key : e ≡ keyTo s p) (gap : Gapped false s e w) where
-    pub elsewhere : ¬ (w .at ≡ g) → false ≡ (eqb (behindKey s p) g && metIn s y first k p)
-    elsewhere n = let h : eqb (behindKey s p) g ≡ false = rw (← key-place p key gap) (ne-eqb (w .at) g n) in rw h
-
-    pub met-here : {r : Bool} → w .at ≡ g → r ≡ metIn s y first k p → r ≡ (eqb (behindKey s p) g && metIn s y first k p)
-    met-here n f = let h : eqb (behindKey s p) g ≡ true = rw (← key-place p key gap) (eq-eqb (w .at) g n) in f ∙ rw h
+  pub met-here : {e : ℕ} {w : Gap} → r ≡ true → e ≡ keyTo s p → Gapped false s e w → eqb (w .at) g ≡ (eqb (behindKey s p) g && metIn s y first k p)
+  met-here {w = w} n key gap =
+      let h : metIn s y first k p ≡ true = sym f ∙ n in
+      let j : w .at ≡ behindKey s p = key-place p key gap in
+      rw (h, j) (sym (and-true (eqb (behindKey s p) g)))
 
 -- ---- the sign after a key
 

@@ -64,19 +64,13 @@ fn is_met(s: &[u8], keys: &[u16], first: usize, k: usize, p: usize, m: u16, g: u
     requires { ⌜ Indexed (now s) (now keys) first k × (m ≡ markAt (now s) p) ⌝ }
     ensures { λ r. ⌜ r ≡ (eqb (behindKey (now (s .entry)) p) g && metIn (now (s .entry)) (now (keys .entry)) first k p) ⌝ }
 {
-    let b = byte_at(s, p);
-    // only words and strings are compared
-    if b != 34 {
-        if !is_start(b) {
-            return false;
-        }
+    // few keys are met, so this is asked first
+    if !find(s, keys, first, k, p, m) {
+        return false;
     }
     let e = key_end(s, p);
     let w = skip_line(s, e);
-    if w.at != g {
-        return false;
-    }
-    find(s, keys, first, k, p, m)
+    w.at == g
 }
 
 // The sign after the key from p to e, whose mark is m and whose object has the earlier keys in the slots from the first-th to before the k-th.

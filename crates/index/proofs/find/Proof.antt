@@ -2,9 +2,7 @@
 use Prim.Native.Nat.{_-_}
 use mathlib.Core.Path.{sym, _∙_}
 use native.Mathlib.Omega.{arith}
-use borrow.Author.Tests.{not-true, not-false}
 use Rattle.index.proofs.Finds.{Seeking, seek-none, seek-start, seek-asks, seek-met, seek-end, seek-less, seek-more}
-use borrow.Author.Needs.{needs}
 use Rattle.index.proofs.find.Statement.{statement}
 use Rattle.index.proofs.find.Tie as tie
 

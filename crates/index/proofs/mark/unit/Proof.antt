@@ -1,5 +1,4 @@
 -- What is left of the unit has the same mark.
-use mathlib.Core.Path.{_≡_}
 use native.Mathlib.Omega.{arith}
 use Rattle.lexis.specs.String.{unpacked}
 use Rattle.index.proofs.Marks.{Mixing, mix-start, unit-more, unit-end}
