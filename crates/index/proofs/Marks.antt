@@ -7,17 +7,18 @@ use native.Mathlib.Omega.{arith}
 use lib.ListN.{length, drop}
 use lib.Dec.{eqb}
 use borrow.Author.Tests.{eq-eqb, ne-eqb}
-use Rattle.lexis.specs.Bytes.{byteAt, isStart, isRest, Byte}
+use Rattle.lexis.specs.Bytes.{byteAt, isStart, isRest, run, runTo, Byte}
+use Rattle.lexis.specs.Word.{identTo}
 use Rattle.lexis.specs.Heredoc.{freshAt}
 use Rattle.lexis.specs.String.{Unit, is, not, quoted, Text, unit, unitIn, textAt, unpacked, pieceOf, UnitHere}
 use Rattle.lexis.specs.Keys.{restOf}
-use Rattle.lexis.specs.RunLaws.{inside}
+use Rattle.lexis.specs.RunLaws.{inside, clash, run-on, run-stop}
 use Rattle.lexis.specs.declared.string.Piece.{Piece}
 use Rattle.lexis.proofs.Units.{Bytewise, Sound, unit-sound}
 use Rattle.lexis.proofs.Texts.{step, stop, bytewise-drop}
 use Rattle.lexis.proofs.Writes.{unpack}
 use Rattle.lexis.proofs.Sames.{rest-on, rest-off}
-use Rattle.index.specs.Mark.{mixed, mixedAll, markAt, Mixed}
+use Rattle.index.specs.Mark.{mixed, mixedAll, markAt, Mixed, WordTo}
 
 -- the bytes l are mixed into m₀; those of `rest` are left, and m is the mark of the others
 pub record Mixing (m₀ : ℕ) (l rest : List ℕ) (m : ℕ) : Type 0 where
@@ -72,6 +73,41 @@ module _ {s : List ℕ} {m₀ : ℕ} {l : List ℕ} {i m b : ℕ} (g : Mixing m�
 
     pub word-more : {r : ℕ} → (r ≡ mixed m b) × (r ≤ 65535) → Mixing m₀ l (restOf (drop (i + 1) s)) r
     word-more f = mix-more g b (restOf (drop (i + 1) s)) (rw (h .is) (rest-on s i (rw (h .is) at e))) (f .0) (f .1)
+
+-- the same of a word whose end is known
+pub record Wording (s : List ℕ) (p e m i : ℕ) : Type 0 where
+  pub mixing : Mixing 0 (restOf (drop p s)) (restOf (drop i s)) m
+  pub runs : runTo isRest s i ≡ e
+
+pub wording-start : (s : List ℕ) (p e : ℕ) → WordTo s p e → Wording s p e 0 p
+wording-start s p e w =
+    let r : isRest (byteAt s p) ≡ true = rw (w .starts) in
+    let z : identTo s p ≡ runTo isRest s (p + 1) = rw (w .starts) in
+    record { mixing = mix-start 0 (restOf (drop p s)) (omega arith); runs = sym (run-on isRest s p (inside isRest s p refl r) r) ∙ sym z ∙ sym (w .ends) }
+
+module _ {s : List ℕ} {p e m i : ℕ} (g : Wording s p e m i) where
+  wording-rest : i < e → isRest (byteAt s i) ≡ true
+  wording-rest h = go (isRest (byteAt s i)) refl
+    where
+      go : (x : Bool) → isRest (byteAt s i) ≡ x → x ≡ true
+      go true f = refl
+      go false f = absurd (omega (arith, g .runs, run-stop isRest s i f))
+
+  pub wording-inside : i < e → i < length s
+  wording-inside h = inside isRest s i refl (wording-rest h)
+
+  pub wording-more : {b r : ℕ} → i < e → Byte s i b → (r ≡ mixed m b) × (r ≤ 65535) → Wording s p e r (i + 1)
+  wording-more h k f = record {
+    mixing = word-more (g .mixing) k (ap isRest (k .is) ∙ wording-rest h) f;
+    runs = run-on isRest s i (wording-inside h) (wording-rest h) ∙ g .runs;
+  }
+
+  pub wording-end : WordTo s p e → e ≤ i → m ≡ markAt s p
+  unfolding markAt
+  wording-end w h =
+      let z : run isRest (drop i s) ≡ 0 = omega (arith, g .runs) in
+      let n : restOf (drop i s) ≡ [] = rw z in
+      mix-end (g .mixing) n .is ∙ sym (rw (ne-eqb (byteAt s p) 34 (λ v. clash (sym (w .starts) ∙ ap isStart v)), w .starts))
 
 -- quoted text, unit by unit
 unit-in : (f : Bool) (l : List ℕ) → unitIn quoted f l ≡ unit true l

@@ -2,10 +2,11 @@
 use Prim.Native.Nat.{ℕ, _+_, _*_, _%_, _≤_}
 use mathlib.Core.Path.{_≡_}
 use mathlib.Core.List.{List, [], _∷_}
-use mathlib.Core.Bool.{cond}
+use mathlib.Core.Bool.{cond, true}
 use lib.ListN.{drop}
 use lib.Dec.{eqb}
 use Rattle.lexis.specs.Bytes.{byteAt, isStart}
+use Rattle.lexis.specs.Word.{identTo}
 use Rattle.lexis.specs.String.{quoted, textAt}
 use Rattle.lexis.specs.Keys.{restOf}
 
@@ -28,3 +29,8 @@ markAt s p =
 pub record Mixed (m : ℕ) (l : List ℕ) (r : ℕ) : Type 0 where
   pub is : r ≡ mixedAll m l
   pub small : r ≤ 65535
+
+-- a word stands at p and ends at e
+pub record WordTo (s : List ℕ) (p e : ℕ) : Type 0 where
+  pub starts : isStart (byteAt s p) ≡ true
+  pub ends : e ≡ identTo s p

@@ -8,7 +8,7 @@ ghost use Prim.Native.Nat.{_≤_};
 ghost use lib.ListN.{drop};
 ghost use Rattle.lexis.specs.Keys.{restOf};
 ghost use Rattle.lexis.specs.String.{quoted, textAt, unpacked};
-ghost use Rattle.index.specs.Mark.{mixed, markAt, Mixed};
+ghost use Rattle.index.specs.Mark.{mixed, markAt, Mixed, WordTo};
 
 // The mark m with the byte b behind it.
 fn mix(m: u32, b: u32) -> u32
@@ -65,6 +65,21 @@ fn text(s: &[u8], p: usize) -> u32
         m = unit(m, u.bytes, u.count);
         i += w;
     }
+}
+
+// The mark of the key at p, which is a word that ends at e: nothing but its bytes is looked at.
+pub fn word_to(s: &[u8], p: usize, e: usize) -> u16
+    requires { ⌜ WordTo (now s) p e ⌝ }
+    ensures { λ r. ⌜ r ≡ markAt (now (s .entry)) p ⌝ }
+{
+    let mut m: u32 = 0;
+    let mut i = p;
+    while i < e {
+        let b = byte_at(s, i);
+        m = mix(m, b as u32);
+        i += 1;
+    }
+    m as u16
 }
 
 // The mark of the key at p.

@@ -6,7 +6,13 @@ use mathlib.Core.List.{List, [], _∷_, _++_}
 use native.Mathlib.Omega.{arith}
 use lib.ListN.{take}
 use lib.Seq.{take-take}
+use borrow.Author.Tests.{ne-eqb}
+use Rattle.lexis.specs.Bytes.{byteAt, isStart}
+use Rattle.lexis.specs.RunLaws.{clash}
 use Rattle.lexis.specs.Keys.{among, sameKey}
+use Rattle.index.specs.Mark.{WordTo}
+use Rattle.grammar.specs.declared.picks.Key.{Key}
+use Rattle.grammar.specs.Alone.{KeyAt}
 use Rattle.index.specs.Index.{starts, Inserted}
 use Rattle.index.specs.IndexLaws.{starts-kept}
 use Rattle.grammar.specs.Moves.{lone, lones}
@@ -51,3 +57,9 @@ kept-less {k} {top} {y} {y′} low h = record { same = sym (take-less y′) ∙ 
 
 pub kept-next : {s y y′ : List ℕ} {k top q r : ℕ} → Keeps s y y′ k top q r → Kept k y y′
 kept-next g = record { same = g .same; long = g .long }
+
+-- a key that is a word, as its mark wants it
+pub word-marks : {s : List ℕ} {p : ℕ} {r : Key} → KeyAt s p r → ¬ (r .end ≡ p) → WordTo s p (r .end)
+word-marks {s} {p} h far =
+    let w = h .word far in
+    record { starts = w .starts; ends = w .ends ∙ rw (ne-eqb (byteAt s p) 34 (λ z. clash (sym (w .starts) ∙ ap isStart z))) }

@@ -10,6 +10,8 @@ use grammar::picks::key_end;
 use grammar::picks::lone;
 use index::find;
 use index::insert;
+use index::mark::mark;
+use index::mark::word_to;
 use lexis::bytes::byte_at;
 use lexis::bytes::is_start;
 use lexis::bytes::one_at;
@@ -21,7 +23,7 @@ use lexis::word::constant_at;
 ghost use mathlib.Core.Path.{_≡_};
 ghost use mathlib.Core.Bool.{_&&_};
 ghost use lib.Dec.{eqb};
-ghost use Rattle.index.specs.Mark.{markAt};
+ghost use Rattle.index.specs.Mark.{markAt, WordTo};
 ghost use Rattle.index.specs.Index.{Indexed};
 ghost use Rattle.grammar.specs.Moves.{behindKey};
 ghost use Rattle.grammar.specs.Hcl.{bare};
@@ -157,6 +159,17 @@ pub fn bare(s: &[u8], nodes: &mut [u16], i: usize, n: usize, p: usize, e: usize)
         return;
     }
     put(nodes, i, Kind::KEY, 0, p as u16, e as u16, 1, 0, 0);
+}
+
+// The mark of the key at p, which is a word that ends at e where that is not p.
+pub fn marked(s: &[u8], p: usize, e: usize) -> u16
+    requires { ⌜ ((e ≡ p → ⊥) → WordTo (now s) p e) ⌝ }
+    ensures { λ r. ⌜ r ≡ markAt (now (s .entry)) p ⌝ }
+{
+    if e != p {
+        return word_to(s, p, e);
+    }
+    mark(s, p)
 }
 
 // The record of a key that is a word from p to e, of a kind as a term: a constant keeps its kind.

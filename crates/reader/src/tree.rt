@@ -3,6 +3,7 @@ use crate::Step;
 use crate::items::bare;
 use crate::items::behind;
 use crate::items::keep;
+use crate::items::marked;
 use crate::items::name;
 use crate::items::sign_at;
 use crate::put::accept;
@@ -28,7 +29,6 @@ use grammar::program::begin;
 use grammar::program::child;
 use grammar::program::instr;
 use index::find;
-use index::mark::mark;
 use lexis::bytes::one_at;
 use lexis::heredoc::opener_at;
 use lexis::string::Why;
@@ -690,8 +690,8 @@ pub fn object(
     let mut t = 0;
     let mut top = k;
     loop {
-        let h = mark(s, q);
         let w = key_at(s, q);
+        let h = marked(s, q, w.end);
         let m = item(
             s,
             nodes,

@@ -3,24 +3,25 @@ use mathlib.Core.Path.{_≡_, refl, _∙_}
 use native.Mathlib.Omega.{arith}
 use lib.ListN.{length}
 use Rattle.reader.proofs.ObjectTurns.{Turn, stood, close-room, inside-brace, object-deep, object-open-no, object-empty, turn-start, turn-no, turn-keeping, object-end-no, object-end, turn-more}
+use Rattle.reader.proofs.Keepings.{word-marks}
 use borrow.Author.Needs.{needs}
 use Prim.Native.Nat.{ℕ, _-_}
 use Rattle.reader.proofs.tree.item.Reads as item
 use Rattle.reader.proofs.tree.object.Reads as object
 use Rattle.reader.proofs.tree.+expr+first+grow+heredoc+interp+item+laid+named+object+pieces+prim+quoted+sub+term.Lts-object as object-lts
-use Rattle.index.proofs.mark.mark.Reads as mark-reads
 use Rattle.grammar.proofs.moves.space.Reads as space-reads
 use Rattle.grammar.proofs.picks.key_at.Reads as key-at-reads
 use Rattle.lexis.proofs.bytes.one_at.Reads as one-at-reads
 use Rattle.reader.proofs.items.behind.Reads as behind-reads
 use Rattle.reader.proofs.items.keep.Reads as keep-reads
+use Rattle.reader.proofs.items.marked.Reads as marked-reads
 use Rattle.reader.proofs.put.close.Reads as close-reads
 use Rattle.reader.proofs.put.refuse.Reads as refuse-reads
 use Rattle.reader.proofs.tree.+expr+first+grow+heredoc+interp+item+laid+named+object+pieces+prim+quoted+sub+term.Proof.Common.{object-at, item-below}
 
 -- what `object` calls, below the measure t
 abbrev calls : ℕ → object-lts.Claims
-calls t = (refuse-reads.Asked, refuse-reads.Learnt, space-reads.Asked, space-reads.Learnt, one-at-reads.Asked, one-at-reads.Learnt, close-reads.Asked, close-reads.Learnt, mark-reads.Asked, mark-reads.Learnt, key-at-reads.Asked, key-at-reads.Learnt, item-below t, item.Post, behind-reads.Asked, behind-reads.Learnt, keep-reads.Asked, keep-reads.Learnt)
+calls t = (refuse-reads.Asked, refuse-reads.Learnt, space-reads.Asked, space-reads.Learnt, one-at-reads.Asked, one-at-reads.Learnt, close-reads.Asked, close-reads.Learnt, key-at-reads.Asked, key-at-reads.Learnt, marked-reads.Asked, marked-reads.Learnt, item-below t, item.Post, behind-reads.Asked, behind-reads.Learnt, keep-reads.Asked, keep-reads.Learnt)
 
 abbrev Inv-loop : object-lts.InvT-loop
 Inv-loop s nodes₀ text₀ keys₀ i u k p left lines q₀ n₀ t₀ top₀ nodes text keys q n t top = Turn s left lines i u p k nodes₀ nodes text₀ text keys₀ keys q n t top × (length nodes ≡ length nodes₀) × (length text ≡ length text₀)
@@ -50,6 +51,9 @@ module _ (t : ℕ) where
   loop-holds : object-lts.Need-loop-holds (calls t) (object-at t) object.Post Inv-loop μ-loop
   loop-holds c = (turn-start (c .before .before .before .before .before .before .before .before .before .before .args .s .now) (c .before .before .before .before .before .before .before .before .before .before .args .left) (c .before .before .before .before .before .before .before .before .before .before .args .lines) (c .before .before .before .before .before .before .before .before .before .before .args .i) (c .before .before .before .before .before .before .before .before .before .before .args .u) (c .before .before .before .before .before .before .before .before .before .before .args .p) (c .before .before .before .before .before .before .before .before .before .before .pre .1 .1) (c .before .before .before .before .before .before .before .before .before .before .pre .1 .0 .inside) (c .before .before .before .before .before .if1 .left) ((c .before .before .before .before .space .ensures .good) (c .before .before .if2 .left)) (c .before .before .before .before .space .ensures .low) (omega (arith, (c .before .before .before .before .space .ensures .high), inside-brace (c .before .before .before .before .before .before .before .before .before .before .args .s .now) (c .before .before .before .before .before .before .before .before .before .before .args .left) (c .before .before .before .before .before .before .before .before .before .before .args .lines) (c .before .before .before .before .before .before .before .before .before .before .args .i) (c .before .before .before .before .before .before .before .before .before .before .args .u) (c .before .before .before .before .before .before .before .before .before .before .args .p) (c .before .before .before .before .before .before .before .before .before .before .pre .1 .1) (c .before .before .before .before .before .before .before .before .before .before .pre .1 .0 .inside))) (c .before .before .before .before .before .before .before .before .before .before .pre .1 .0 .opened) (c .before .before .before .before .before .before .before .before .before .before .pre .1 .0 .wide) (stood (c .before .before .before .before .before .before .before .before .before .before .args .s .now) (c .before .before .before .before .space .result .at) (c .before .one-at .ensures) (c .if3 .left)), refl, refl)
 
+  marked-requires : object-lts.Need-marked-requires (calls t) (object-at t) object.Post Inv-loop μ-loop
+  marked-requires c κs = word-marks (c .key-at .ensures)
+
   add-item : object-lts.Need-add-item (calls t) (object-at t) object.Post Inv-loop μ-loop
   add-item c = omega (arith, (c .before .before .before .before .before .before .before .before .before .before .before .before .before .before .before .before .pre .1 .0 .small), (c .before .before .before .before .before .before .before .before .before .before .before .before .before .before .before .before .pre .1 .0 .few), (c .before .before .before .before .before .before .before .before .before .before .before .before .before .before .before .before .pre .1 .0 .used), (c .before .before .before .before .before .before .before .before .before .before .before .before .before .before .before .before .pre .1 .0 .wide), (c .before .before .before .before .before .loop .inv .0 .room), (c .before .before .before .before .before .loop .inv .0 .spent), (c .before .before .before .before .before .loop .inv .0 .high), (c .before .before .before .before .before .loop .inv .0 .few), (c .before .before .before .before .before .loop .inv .0 .low), (c .before .before .before .before .before .loop .inv .0 .kept .long))
 
@@ -60,7 +64,7 @@ module _ (t : ℕ) where
   sub-item c = omega (arith, (c .before .before .before .before .before .before .before .before .before .before .before .if1 .left))
 
   item-requires : object-lts.Need-item-requires (calls t) (object-at t) object.Post Inv-loop μ-loop
-  item-requires c κs = (omega (arith, (c .before .before .before .before .before .before .before .before .before .before .before .before .before .before .before .before .pre .0), (c .before .before .before .before .before .before .before .before .before .before .before .if1 .left), (c .before .before .before .before .before .before .before .before .before .before .before .before .before .before .before .before .pre .1 .0 .small), (c .before .before .before .before .before .before .before .before .before .before .before .before .before .before .before .before .pre .1 .0 .few), (c .before .before .before .before .before .before .before .before .before .before .before .before .before .before .before .before .pre .1 .0 .used), (c .before .before .before .before .before .before .before .before .before .before .before .before .before .before .before .before .pre .1 .0 .wide), (c .before .before .before .before .before .loop .inv .0 .room), (c .before .before .before .before .before .loop .inv .0 .spent), (c .before .before .before .before .before .loop .inv .0 .high), (c .before .before .before .before .before .loop .inv .0 .few), (c .before .before .before .before .before .loop .inv .0 .low), (c .before .before .before .before .before .loop .inv .0 .kept .long)), (omega (arith, (c .before .before .before .before .before .before .before .before .before .before .before .before .before .before .before .before .pre .1 .0 .small), (c .before .before .before .before .before .before .before .before .before .before .before .before .before .before .before .before .pre .1 .0 .few), (c .before .before .before .before .before .before .before .before .before .before .before .before .before .before .before .before .pre .1 .0 .used), (c .before .before .before .before .before .before .before .before .before .before .before .before .before .before .before .before .pre .1 .0 .wide), (c .before .before .before .before .before .loop .inv .0 .room), (c .before .before .before .before .before .loop .inv .0 .spent), (c .before .before .before .before .before .loop .inv .0 .high), (c .before .before .before .before .before .loop .inv .0 .few), (c .before .before .before .before .before .loop .inv .0 .low), (c .before .before .before .before .before .loop .inv .0 .kept .long)), (c .before .before .before .before .before .loop .inv .0 .indexed), (c .before .before .before .before .mark .ensures), (c .before .before .before .key-at .ensures)))
+  item-requires c κs = (omega (arith, (c .before .before .before .before .before .before .before .before .before .before .before .before .before .before .before .before .pre .0), (c .before .before .before .before .before .before .before .before .before .before .before .if1 .left), (c .before .before .before .before .before .before .before .before .before .before .before .before .before .before .before .before .pre .1 .0 .small), (c .before .before .before .before .before .before .before .before .before .before .before .before .before .before .before .before .pre .1 .0 .few), (c .before .before .before .before .before .before .before .before .before .before .before .before .before .before .before .before .pre .1 .0 .used), (c .before .before .before .before .before .before .before .before .before .before .before .before .before .before .before .before .pre .1 .0 .wide), (c .before .before .before .before .before .loop .inv .0 .room), (c .before .before .before .before .before .loop .inv .0 .spent), (c .before .before .before .before .before .loop .inv .0 .high), (c .before .before .before .before .before .loop .inv .0 .few), (c .before .before .before .before .before .loop .inv .0 .low), (c .before .before .before .before .before .loop .inv .0 .kept .long)), (omega (arith, (c .before .before .before .before .before .before .before .before .before .before .before .before .before .before .before .before .pre .1 .0 .small), (c .before .before .before .before .before .before .before .before .before .before .before .before .before .before .before .before .pre .1 .0 .few), (c .before .before .before .before .before .before .before .before .before .before .before .before .before .before .before .before .pre .1 .0 .used), (c .before .before .before .before .before .before .before .before .before .before .before .before .before .before .before .before .pre .1 .0 .wide), (c .before .before .before .before .before .loop .inv .0 .room), (c .before .before .before .before .before .loop .inv .0 .spent), (c .before .before .before .before .before .loop .inv .0 .high), (c .before .before .before .before .before .loop .inv .0 .few), (c .before .before .before .before .before .loop .inv .0 .low), (c .before .before .before .before .before .loop .inv .0 .kept .long)), (c .before .before .before .before .before .loop .inv .0 .indexed), (c .before .before .before .marked .ensures), (c .before .before .before .before .key-at .ensures)))
 
   same-length-2 : object-lts.Need-same-length-2 (calls t) (object-at t) object.Post Inv-loop μ-loop
   same-length-2 c = (c .before .before .before .before .before .before .before .before .item .kept .1 .0) ∙ (c .before .before .before .before .before .before .before .before .before .before .before .before .before .before .loop .inv .1)
@@ -111,7 +115,7 @@ module _ (t : ℕ) where
   returns-6 c = object-end (c .before .before .before .before .before .before .before .before .before .before .before .before .before .before .before .before .before .before .before .before .before .before .before .before .before .before .before .before .before .before .before .before .before .before .before .before .before .args .s .now) (c .before .before .before .before .before .before .before .before .before .before .before .before .before .before .before .before .before .before .before .before .before .before .before .before .before .before .before .before .before .before .before .before .before .before .before .before .before .args .left) (c .before .before .before .before .before .before .before .before .before .before .before .before .before .before .before .before .before .before .before .before .before .before .before .before .before .before .before .before .before .before .before .before .before .before .before .before .before .args .lines) (c .before .before .before .before .before .before .before .before .before .before .before .before .before .before .before .before .before .before .before .before .before .before .before .before .before .before .before .before .before .before .before .before .before .before .before .before .before .args .i) (c .before .before .before .before .before .before .before .before .before .before .before .before .before .before .before .before .before .before .before .before .before .before .before .before .before .before .before .before .before .before .before .before .before .before .before .before .before .args .u) (c .before .before .before .before .before .before .before .before .before .before .before .before .before .before .before .before .before .before .before .before .before .before .before .before .before .before .before .before .before .before .before .before .before .before .before .before .before .args .p) (c .before .before .before .before .before .before .before .before .before .before .before .before .before .before .before .before .before .before .before .before .before .before .before .before .before .before .before .before .before .before .before .before .before .before .before .before .before .pre .1 .1) (c .before .before .before .before .before .before .before .before .before .before .before .before .before .before .before .before .before .before .before .before .before .before .before .before .before .before .before .before .before .before .before .before .before .before .before .before .before .pre .1 .0 .inside) (c .before .before .before .before .before .before .before .before .before .before .before .before .before .before .before .before .before .before .before .before .before .before .before .before .before .before .loop .inv .0) (c .before .before .before .before .before .before .before .before .before .before .before .before .before .before .before .before .before .before .before .before .item .ensures) (c .before .before .before .before .before .before .before .before .before .before .before .before .if4 .left) ((c .before .before .before .before .before .before .before .before .before .behind .ensures .good) (c .before .before .before .before .before .before .before .if5 .left)) (c .before .before .before .before .before .before .before .before .before .behind .ensures .low) (omega (arith, (c .before .before .before .before .before .before .before .before .before .behind .ensures .high), (c .before .before .before .before .before .before .before .before .before .before .before .before .before .before .before .before .before .before .before .before .item .ensures .high))) (stood (c .before .before .before .before .before .before .before .before .before .before .before .before .before .before .before .before .before .before .before .before .before .before .before .before .before .before .before .before .before .before .before .before .before .before .before .before .before .args .s .now) (c .before .before .before .before .before .before .before .before .before .behind .result .at) (c .before .before .before .before .before .before .one-at2 .ensures) (c .before .before .before .before .before .if6 .taken)) (c .before .before .close2 .ensures .0) (c .before .before .close2 .ensures .1)
 
   keep-requires : object-lts.Need-keep-requires (calls t) (object-at t) object.Post Inv-loop μ-loop
-  keep-requires c κs = turn-keeping (c .before .before .before .before .before .before .before .before .before .before .before .before .before .before .before .before .before .before .before .before .before .before .before .before .before .before .before .before .before .before .before .before .before .args .s .now) (c .before .before .before .before .before .before .before .before .before .before .before .before .before .before .before .before .before .before .before .before .before .before .before .before .before .before .before .before .before .before .before .before .before .args .left) (c .before .before .before .before .before .before .before .before .before .before .before .before .before .before .before .before .before .before .before .before .before .before .before .before .before .before .before .before .before .before .before .before .before .args .lines) (c .before .before .before .before .before .before .before .before .before .before .before .before .before .before .before .before .before .before .before .before .before .before .before .before .before .before .before .before .before .before .before .before .before .args .i) (c .before .before .before .before .before .before .before .before .before .before .before .before .before .before .before .before .before .before .before .before .before .before .before .before .before .before .before .before .before .before .before .before .before .args .u) (c .before .before .before .before .before .before .before .before .before .before .before .before .before .before .before .before .before .before .before .before .before .before .before .before .before .before .before .before .before .before .before .before .before .args .p) (c .before .before .before .before .before .before .before .before .before .before .before .before .before .before .before .before .before .before .before .before .before .before .before .before .before .before .before .before .before .before .before .before .before .pre .1 .1) (c .before .before .before .before .before .before .before .before .before .before .before .before .before .before .before .before .before .before .before .before .before .before .before .before .before .before .before .before .before .before .before .before .before .pre .1 .0 .inside) (c .before .before .before .before .before .before .before .before .before .before .before .before .before .before .before .before .before .before .before .before .before .before .loop .inv .0) (c .before .before .before .before .before .before .before .before .before .before .before .before .before .before .before .before .item .ensures) (c .before .before .before .before .before .before .before .before .if4 .left) (c .before .before .before .before .before .before .before .before .before .before .before .before .before .before .before .before .before .before .before .before .before .before .before .before .before .before .before .before .before .before .before .before .before .pre .1 .0 .small) (c .before .before .before .before .before .before .before .before .before .before .before .before .before .before .before .before .before .before .before .before .before .before .before .before .before .before .before .before .before .before .before .before .before .pre .1 .0 .wide) (c .before .before .before .before .before .before .before .before .before .before .before .before .before .before .before .before .before .before .before .before .before .mark .ensures) (c .before .before .before .before .before .before .before .before .before .before .before .before .before .before .before .before .before .before .before .before .key-at .ensures)
+  keep-requires c κs = turn-keeping (c .before .before .before .before .before .before .before .before .before .before .before .before .before .before .before .before .before .before .before .before .before .before .before .before .before .before .before .before .before .before .before .before .before .args .s .now) (c .before .before .before .before .before .before .before .before .before .before .before .before .before .before .before .before .before .before .before .before .before .before .before .before .before .before .before .before .before .before .before .before .before .args .left) (c .before .before .before .before .before .before .before .before .before .before .before .before .before .before .before .before .before .before .before .before .before .before .before .before .before .before .before .before .before .before .before .before .before .args .lines) (c .before .before .before .before .before .before .before .before .before .before .before .before .before .before .before .before .before .before .before .before .before .before .before .before .before .before .before .before .before .before .before .before .before .args .i) (c .before .before .before .before .before .before .before .before .before .before .before .before .before .before .before .before .before .before .before .before .before .before .before .before .before .before .before .before .before .before .before .before .before .args .u) (c .before .before .before .before .before .before .before .before .before .before .before .before .before .before .before .before .before .before .before .before .before .before .before .before .before .before .before .before .before .before .before .before .before .args .p) (c .before .before .before .before .before .before .before .before .before .before .before .before .before .before .before .before .before .before .before .before .before .before .before .before .before .before .before .before .before .before .before .before .before .pre .1 .1) (c .before .before .before .before .before .before .before .before .before .before .before .before .before .before .before .before .before .before .before .before .before .before .before .before .before .before .before .before .before .before .before .before .before .pre .1 .0 .inside) (c .before .before .before .before .before .before .before .before .before .before .before .before .before .before .before .before .before .before .before .before .before .before .loop .inv .0) (c .before .before .before .before .before .before .before .before .before .before .before .before .before .before .before .before .item .ensures) (c .before .before .before .before .before .before .before .before .if4 .left) (c .before .before .before .before .before .before .before .before .before .before .before .before .before .before .before .before .before .before .before .before .before .before .before .before .before .before .before .before .before .before .before .before .before .pre .1 .0 .small) (c .before .before .before .before .before .before .before .before .before .before .before .before .before .before .before .before .before .before .before .before .before .before .before .before .before .before .before .before .before .before .before .before .before .pre .1 .0 .wide) (c .before .before .before .before .before .before .before .before .before .before .before .before .before .before .before .before .before .before .before .before .marked .ensures) (c .before .before .before .before .before .before .before .before .before .before .before .before .before .before .before .before .before .before .before .before .before .key-at .ensures)
 
   loop-less : object-lts.Need-loop-less (calls t) (object-at t) object.Post Inv-loop μ-loop
   loop-less c = omega (arith, (c .before .before .before .before .before .before .before .before .before .before .before .before .before .before .before .before .before .before .before .before .before .before .before .before .before .before .before .before .before .before .before .before .before .before .before .before .pre .1 .0 .small), (c .before .before .before .before .before .before .before .before .before .before .before .before .before .before .before .before .before .before .before .before .before .before .before .before .before .before .before .before .before .before .before .before .before .before .before .before .pre .1 .0 .few), (c .before .before .before .before .before .before .before .before .before .before .before .before .before .before .before .before .before .before .before .before .before .before .before .before .before .before .before .before .before .before .before .before .before .before .before .before .pre .1 .0 .used), (c .before .before .before .before .before .before .before .before .before .before .before .before .before .before .before .before .before .before .before .before .before .before .before .before .before .before .before .before .before .before .before .before .before .before .before .before .pre .1 .0 .wide), (c .before .before .before .before .before .before .before .before .before .before .before .before .before .before .before .before .before .before .before .before .before .before .before .before .before .loop .inv .0 .room), (c .before .before .before .before .before .before .before .before .before .before .before .before .before .before .before .before .before .before .before .before .before .before .before .before .before .loop .inv .0 .spent), (c .before .before .before .before .before .before .before .before .before .before .before .before .before .before .before .before .before .before .before .before .before .before .before .before .before .loop .inv .0 .high), (c .before .before .before .before .before .before .before .before .before .before .before .before .before .before .before .before .before .before .before .before .before .before .before .before .before .loop .inv .0 .few), (c .before .before .before .before .before .before .before .before .before .before .before .before .before .before .before .before .before .before .before .before .before .before .before .before .before .loop .inv .0 .low), (c .before .before .before .before .before .before .before .before .before .before .before .before .before .before .before .before .before .before .before .before .before .before .before .before .before .loop .inv .0 .kept .long), (c .before .before .before .before .before .before .before .before .before .before .before .before .before .before .before .before .before .before .before .item .ensures .room), (c .before .before .before .before .before .before .before .before .before .before .before .before .before .before .before .before .before .before .before .item .ensures .spent), (c .before .before .before .before .before .before .before .before .before .before .before .before .before .before .before .before .before .before .before .item .ensures .high), (c .before .before .before .before .before .before .before .before .before .before .before .before .before .before .before .before .before .before .before .item .ensures .kept .long), (c .before .before .before .before .before .before .before .before .behind .ensures .low), (c .before .before .before .before .before .before .before .before .behind .ensures .high), (c .before .before .before .before .before .before .before .before .before .before .before .before .before .before .before .before .before .before .before .item .ensures .long) (c .before .before .before .before .before .before .before .before .before .before .before .if4 .left))
@@ -121,4 +125,4 @@ module _ (t : ℕ) where
 
   pub met : {M : Type 1} → object-lts.Closed (calls t) (object-at t) object.Post M
   met = object-lts.spec (calls t) (object-at t) object.Post
-      Inv-loop μ-loop (λ c κs. search needs) returns add-space (λ c κs. search needs) (λ c κs. search needs) returns-2 (λ c κs. search needs) add-close close-requires (λ c. search needs) returns-3 loop-holds (λ c κs. search needs) (λ c κs. search needs) add-item add-item-2 sub-item item-requires same-length-2 same-length-3 same-length-4 returns-4 add-n add-t (λ c κs. search needs) (λ c κs. search needs) same-length-5 same-length-6 same-length-7 returns-5 (λ c κs. search needs) add-close-2 close-requires-2 same-length-8 same-length-9 same-length-10 returns-6 keep-requires loop-less loop-again
+      Inv-loop μ-loop (λ c κs. search needs) returns add-space (λ c κs. search needs) (λ c κs. search needs) returns-2 (λ c κs. search needs) add-close close-requires (λ c. search needs) returns-3 loop-holds (λ c κs. search needs) marked-requires add-item add-item-2 sub-item item-requires same-length-2 same-length-3 same-length-4 returns-4 add-n add-t (λ c κs. search needs) (λ c κs. search needs) same-length-5 same-length-6 same-length-7 returns-5 (λ c κs. search needs) add-close-2 close-requires-2 same-length-8 same-length-9 same-length-10 returns-6 keep-requires loop-less loop-again
