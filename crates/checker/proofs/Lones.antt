@@ -318,16 +318,19 @@ item-class c e = go (eqb c 2) (eqb c 3) (eqb c 6) (eqb c 7) refl (ap isEntry e)
     go a b d true g h = eqb-true c 7 g
     go a b d false g h = clash (sym h ∙ off a _ _ refl (off b _ _ refl (off d _ _ refl none-of)))
 
-module _ (s : List ℕ) (c a : ℕ) where
-  pub alone-other : {m : Memo} {y : Bool} → ¬ (c ≡ 7) → Known s m → AloneAt s c a (record { yes = y; memo = m })
-  alone-other n h = record { yes = λ e. absurd (n (item-class c e)); known = h }
+module _ {s : List ℕ} {c a : ℕ} {r : Lone} where
+  pub alone-other : {m : Memo} {y : Bool} → ¬ (c ≡ 7) → Known s m → r ≡ record { yes = y; memo = m } → AloneAt s c a r
+  alone-other {m} {y} n h e = record { yes = λ z. absurd (n (item-class c z)); known = subst (Known s) (sym (ap (λ (x : Lone). x .memo) e)) h }
 
-  module _ {k q : ℕ} (e : k ≡ keyTo s a) (p : SpacesTo s k q) where
-    from-key : signed s q ≡ lone s a
-    from-key = ap (λ (g : Gap). signAt s (g .at)) (p .same ∙ ap (gapTo false s) e)
+  pub alone-item : {x : Lone} → Behind s (keyTo s a) x → r ≡ x → AloneAt s c a r
+  alone-item h e = record { yes = λ z. ap (λ (o : Lone). o .yes) e ∙ h .yes; known = subst (Known s) (sym (ap (λ (o : Lone). o .memo) e)) (h .known) }
 
-    pub alone-behind : {r : Lone} → Behind s q r → AloneAt s c a r
-    alone-behind h = record { yes = λ z. h .yes ∙ from-key; known = h .known }
+module _ (s : List ℕ) (a : ℕ) {k q : ℕ} (e : k ≡ keyTo s a) (p : SpacesTo s k q) where
+  from-key : signed s q ≡ lone s a
+  from-key = ap (λ (g : Gap). signAt s (g .at)) (p .same ∙ ap (gapTo false s) e)
 
-    pub alone-here : {b y : Bool} {m : Memo} → b ≡ stands (47 ∷ 42 ∷ []) s q → b ≡ false → y ≡ signAt s q → Known s m → AloneAt s c a (record { yes = y; memo = m })
-    alone-here f g i h = record { yes = λ z. i ∙ sym (ap (λ (g : Gap). signAt s (g .at)) (gap-here s q (p .ends) (sym f ∙ g))) ∙ from-key; known = h }
+  pub item-behind : {r : Lone} → Behind s q r → Behind s (keyTo s a) r
+  item-behind h = record { yes = h .yes ∙ from-key; known = h .known }
+
+  pub item-here : {b y : Bool} {m : Memo} → b ≡ stands (47 ∷ 42 ∷ []) s q → b ≡ false → y ≡ signAt s q → Known s m → Behind s (keyTo s a) (record { yes = y; memo = m })
+  item-here f g i h = record { yes = i ∙ sym (ap (λ (g : Gap). signAt s (g .at)) (gap-here s q (p .ends) (sym f ∙ g))) ∙ from-key; known = h }

@@ -1,4 +1,5 @@
 // A layout, laid over the children of a node.
+use crate::lone::Lone;
 use crate::lone::Memo;
 use crate::lone::alone;
 use crate::moves::go;
@@ -10,6 +11,9 @@ use crate::rows::wide;
 ghost use Prim.Native.Nat.{_+_, _*_, _≤_};
 ghost use lib.ListN.{length};
 ghost use Rattle.checker.specs.Lay.{EndsAt, Laying, LaidBy};
+
+// The class of an object's items.
+const ITEMS: u8 = 7;
 
 // Whether the i-th row ends at q with a flag, and no child of it is left.
 fn ends(table: &[u16], i: usize, j: usize, q: usize, flag: usize) -> bool
@@ -56,7 +60,13 @@ pub fn lay(
             return ends(table, i, j, q, x.arg);
         }
         if x.op == Instr::KID {
-            let key = alone(s, x.class, q, memo);
+            let mut key = Lone {
+                yes: false,
+                memo: memo,
+            };
+            if x.class == ITEMS {
+                key = alone(s, q, memo);
+            }
             let c = pass(
                 s,
                 table,
@@ -91,7 +101,13 @@ pub fn lay(
             continue;
         }
         if x.op == Instr::REP {
-            let key = alone(s, x.class, w.at, memo);
+            let mut key = Lone {
+                yes: false,
+                memo: memo,
+            };
+            if x.class == ITEMS {
+                key = alone(s, w.at, memo);
+            }
             let c = pass(
                 s,
                 table,

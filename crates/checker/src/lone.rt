@@ -11,10 +11,8 @@ ghost use mathlib.Core.Bool.{true};
 ghost use Prim.Native.Nat.{_+_, _≤_};
 ghost use lib.ListN.{length};
 ghost use Rattle.lexis.specs.Bytes.{stands};
-ghost use Rattle.checker.specs.Lone.{signAt, Known, SpacesTo, CloserAt, Covered, OneOf, Behind, AloneAt};
-
-// The class of an object's items.
-const ITEMS: u8 = 7;
+ghost use Rattle.grammar.specs.Moves.{keyTo};
+ghost use Rattle.checker.specs.Lone.{signAt, Known, SpacesTo, CloserAt, Covered, OneOf, Behind};
 
 // Of each `/*` whose text starts from `from` to `to`, but not with `/`: whether `=` or `:` stands behind the same-line space that it starts.
 pub struct Memo {
@@ -132,17 +130,11 @@ fn behind(s: &[u8], c: usize, memo: Memo) -> Lone
     }
 }
 
-// Whether the key of an item at a stands alone; for a child of another class it says nothing.
-pub fn alone(s: &[u8], class: u8, a: usize, memo: Memo) -> Lone
+// Whether the key of an item at a stands alone.
+pub fn alone(s: &[u8], a: usize, memo: Memo) -> Lone
     requires { ⌜ Known (now s) memo ⌝ }
-    ensures { λ r. ⌜ AloneAt (now (s .entry)) class a r ⌝ }
+    ensures { λ r. ⌜ Behind (now (s .entry)) (keyTo (now (s .entry)) a) r ⌝ }
 {
-    if class != ITEMS {
-        return Lone {
-            yes: false,
-            memo: memo,
-        };
-    }
     let k = key_end(s, a);
     let q = spaces(s, k);
     if two_at(s, q, 47, 42) {

@@ -2,11 +2,12 @@ use native.Mathlib.Omega.{arith}
 use borrow.Author.Needs.{needs}
 use Prim.Native.Nat.{_-_, _+_, _*_, _<_}
 use mathlib.Core.Path.{_≡_, refl, sym, ap, subst, _∙_}
+use mathlib.Core.Logic.{⊎-elim}
 use lib.ListN.{length}
 use borrow.Author.Tests.{not-true, not-false}
 use Rattle.checker.specs.Lay.{Laying}
 use Rattle.checker.specs.Lone.{Known}
-use Rattle.checker.proofs.Lones.{known-nothing}
+use Rattle.checker.proofs.Lones.{known-nothing, alone-item, alone-other}
 use Rattle.checker.proofs.Lays.{Turn, known, turn-start, turn-within, turn-passing, do-fin, do-kid, do-kid-no, do-stop, do-other, do-later, do-rep, do-rep-no, do-on, do-up}
 use Rattle.checker.proofs.lay.lay.Statement.{statement}
 use Rattle.checker.proofs.lay.lay.Tie as tie
@@ -66,35 +67,35 @@ returns : tie.Need-returns Inv-loop μ-loop
 returns c = do-fin _ _ _ _ _ ((c .before .before .before .before .loop .inv .2)) ((c .before .before .before .instr .ensures)) _ ((c .before .if1 .taken)) ((c .ends .ensures))
 
 alone-requires : tie.Need-alone-requires Inv-loop μ-loop
-alone-requires c κs = (c .before .before .before .before .before .loop .inv .3)
+alone-requires c κs = (c .before .before .before .before .before .before .before .loop .inv .3)
 
 -- src/lay.rt:52:17
 pass-requires : tie.Need-pass-requires Inv-loop μ-loop
-pass-requires c κs = turn-passing _ _ _ _ _ ((c .before .before .before .before .before .before .before .before .loop .inv .2)) ((c .before .before .before .before .before .before .before .before .loop .inv .0)) ((c .before .before .before .before .before .before .before .before .loop .inv .1)) (c .before .before .alone .ensures)
+pass-requires c κs = turn-passing _ _ _ _ _ ((c .before .before .before .before .before .before .before .before .before .loop .inv .2)) ((c .before .before .before .before .before .before .before .before .before .loop .inv .0)) ((c .before .before .before .before .before .before .before .before .before .loop .inv .1)) ((⊎-elim (λ w. alone-item (w .1 .ensures) (w .2)) (λ w. alone-other (w .0 .left) (c .before .before .before .before .before .before .before .before .before .loop .inv .3) (w .1)) (c .before .before .if3 .came)))
 
 -- src/lay.rt:56:17
 same-length-3 : tie.Need-same-length-3 Inv-loop μ-loop
-same-length-3 c = omega (arith, (c .before .before .before .before .before .before .pass .ensures .long), (c .before .before .before .before .before .before .before .before .before .before .before .before .before .before .before .loop .inv .2 .long))
+same-length-3 c = omega (arith, (c .before .before .before .before .before .before .pass .ensures .long), (c .before .before .before .before .before .before .before .before .before .before .before .before .before .before .before .before .loop .inv .2 .long))
 
 -- src/lay.rt:56:17
 same-length-4 : tie.Need-same-length-4 Inv-loop μ-loop
-same-length-4 c = omega (arith, (c .before .before .before .before .before .before .pass .ensures .room), (c .before .before .before .before .before .before .before .before .before .before .before .before .before .before .before .loop .inv .1))
+same-length-4 c = omega (arith, (c .before .before .before .before .before .before .pass .ensures .room), (c .before .before .before .before .before .before .before .before .before .before .before .before .before .before .before .before .loop .inv .1))
 
 -- src/lay.rt:56:17
 returns-2 : tie.Need-returns-2 Inv-loop μ-loop
-returns-2 c = do-kid-no _ _ _ _ _ ((c .before .before .before .before .before .before .before .before .before .before .before .before .before .before .before .loop .inv .2)) ((c .before .before .before .before .before .before .before .before .before .before .before .before .before .before .instr .ensures)) (omega (arith, (c .before .before .before .before .before .before .before .before .before .before .before .before .before .before .before .loop .inv .0 .deep), (c .before .before .before .before .before .before .before .before .before .before .before .before .before .before .before .loop .inv .2 .long))) ((c .before .before .before .before .before .before .before .before .before .before .if2 .taken)) ((c .before .before .before .before .before .before .pass .ensures)) (not-true _ ((c .if3 .taken)))
+returns-2 c = do-kid-no _ _ _ _ _ ((c .before .before .before .before .before .before .before .before .before .before .before .before .before .before .before .before .loop .inv .2)) ((c .before .before .before .before .before .before .before .before .before .before .before .before .before .before .before .instr .ensures)) (omega (arith, (c .before .before .before .before .before .before .before .before .before .before .before .before .before .before .before .before .loop .inv .0 .deep), (c .before .before .before .before .before .before .before .before .before .before .before .before .before .before .before .before .loop .inv .2 .long))) ((c .before .before .before .before .before .before .before .before .before .before .before .if2 .taken)) ((c .before .before .before .before .before .before .pass .ensures)) (not-true _ ((c .if4 .taken)))
 
 -- src/lay.rt:61:18
 add-pc : tie.Need-add-pc Inv-loop μ-loop
-add-pc c = omega (arith, turn-within _ _ _ _ _ ((c .before .before .before .before .before .before .before .before .before .before .before .before .before .before .before .before .loop .inv .2)))
+add-pc c = omega (arith, turn-within _ _ _ _ _ ((c .before .before .before .before .before .before .before .before .before .before .before .before .before .before .before .before .before .loop .inv .2)))
 
 -- src/lay.rt:46:5
 loop-less : tie.Need-loop-less Inv-loop μ-loop
-loop-less c = let u = do-up _ _ _ _ _ ((c .before .before .before .before .before .before .before .before .before .before .before .before .before .before .before .before .loop .inv .2)) ((c .before .before .before .before .before .before .before .before .before .before .before .before .before .before .before .instr .ensures)) ((c .before .before .before .before .before .before .before .pass .ensures)) (not-false _ ((c .before .if3 .left))) in omega (arith, u .0, u .1)
+loop-less c = let u = do-up _ _ _ _ _ ((c .before .before .before .before .before .before .before .before .before .before .before .before .before .before .before .before .before .loop .inv .2)) ((c .before .before .before .before .before .before .before .before .before .before .before .before .before .before .before .before .instr .ensures)) ((c .before .before .before .before .before .before .before .pass .ensures)) (not-false _ ((c .before .if4 .left))) in omega (arith, u .0, u .1)
 
 -- src/lay.rt:46:5
 loop-again : tie.Need-loop-again Inv-loop μ-loop
-loop-again c = ((c .before .before .before .before .before .before .before .before .before .before .before .before .before .before .before .before .loop .inv .0), (c .before .before .before .before .before .before .before .pass .ensures .room) ∙ (c .before .before .before .before .before .before .before .before .before .before .before .before .before .before .before .before .loop .inv .1), do-kid _ _ _ _ _ ((c .before .before .before .before .before .before .before .before .before .before .before .before .before .before .before .before .loop .inv .2)) ((c .before .before .before .before .before .before .before .before .before .before .before .before .before .before .before .instr .ensures)) (omega (arith, (c .before .before .before .before .before .before .before .before .before .before .before .before .before .before .before .before .loop .inv .0 .deep), (c .before .before .before .before .before .before .before .before .before .before .before .before .before .before .before .before .loop .inv .2 .long))) ((c .before .before .before .before .before .before .before .before .before .before .before .if2 .taken)) ((c .before .before .before .before .before .before .before .pass .ensures)) (not-false _ ((c .before .if3 .left))), c .before .before .before .before .before .before .before .before .before .before .alone .ensures .known)
+loop-again c = ((c .before .before .before .before .before .before .before .before .before .before .before .before .before .before .before .before .before .loop .inv .0), (c .before .before .before .before .before .before .before .pass .ensures .room) ∙ (c .before .before .before .before .before .before .before .before .before .before .before .before .before .before .before .before .before .loop .inv .1), do-kid _ _ _ _ _ ((c .before .before .before .before .before .before .before .before .before .before .before .before .before .before .before .before .before .loop .inv .2)) ((c .before .before .before .before .before .before .before .before .before .before .before .before .before .before .before .before .instr .ensures)) (omega (arith, (c .before .before .before .before .before .before .before .before .before .before .before .before .before .before .before .before .before .loop .inv .0 .deep), (c .before .before .before .before .before .before .before .before .before .before .before .before .before .before .before .before .before .loop .inv .2 .long))) ((c .before .before .before .before .before .before .before .before .before .before .before .before .if2 .taken)) ((c .before .before .before .before .before .before .before .pass .ensures)) (not-false _ ((c .before .if4 .left))), let k = ⊎-elim (λ w. alone-item (w .1 .ensures) (w .2)) (λ w. alone-other (w .0 .left) (c .before .before .before .before .before .before .before .before .before .before .before .before .before .before .before .before .before .loop .inv .3) (w .1)) (c .before .before .before .before .before .before .before .before .before .before .if3 .came) in k .known)
 
 -- src/lay.rt:64:13
 go-requires : tie.Need-go-requires Inv-loop μ-loop
@@ -110,42 +111,42 @@ same-length-6 c = (c .before .before .before .before .before .before .before .be
 
 -- src/lay.rt:67:17
 returns-3 : tie.Need-returns-3 Inv-loop μ-loop
-returns-3 c = do-stop _ _ _ _ _ ((c .before .before .before .before .before .before .before .before .before .before .loop .inv .2)) ((c .before .before .before .before .before .before .before .before .before .instr .ensures)) ((c .if5 .taken)) ((c .before .before .before .before .go .ensures)) ((c .before .before .if4 .taken))
+returns-3 c = do-stop _ _ _ _ _ ((c .before .before .before .before .before .before .before .before .before .before .loop .inv .2)) ((c .before .before .before .before .before .before .before .before .before .instr .ensures)) ((c .if6 .taken)) ((c .before .before .before .before .go .ensures)) ((c .before .before .if5 .taken))
 
 -- src/lay.rt:46:5
 loop-less-2 : tie.Need-loop-less-2 Inv-loop μ-loop
-loop-less-2 c = omega (arith, turn-within _ _ _ _ _ ((c .before .before .before .before .before .before .before .before .before .before .loop .inv .2)), do-later _ _ _ _ _ ((c .before .before .before .before .before .before .before .before .before .before .loop .inv .2)) ((c .before .before .before .before .before .before .before .before .before .instr .ensures)) ((c .before .before .before .before .before .before .before .if1 .left)) ((c .if5 .left)) ((c .before .before .before .before .before .if2 .left)))
+loop-less-2 c = omega (arith, turn-within _ _ _ _ _ ((c .before .before .before .before .before .before .before .before .before .before .loop .inv .2)), do-later _ _ _ _ _ ((c .before .before .before .before .before .before .before .before .before .before .loop .inv .2)) ((c .before .before .before .before .before .before .before .before .before .instr .ensures)) ((c .before .before .before .before .before .before .before .if1 .left)) ((c .if6 .left)) ((c .before .before .before .before .before .if2 .left)))
 
 -- src/lay.rt:46:5
 loop-again-2 : tie.Need-loop-again-2 Inv-loop μ-loop
-loop-again-2 c = ((c .before .before .before .before .before .before .before .before .before .before .loop .inv .0), (c .before .before .before .before .before .before .before .before .before .before .loop .inv .1), do-other _ _ _ _ _ ((c .before .before .before .before .before .before .before .before .before .before .loop .inv .2)) ((c .before .before .before .before .before .before .before .before .before .instr .ensures)) ((c .before .before .before .before .before .before .before .if1 .left)) ((c .if5 .left)) ((c .before .before .before .before .before .if2 .left)) ((c .before .before .before .before .go .ensures)) ((c .before .before .if4 .taken)), c .before .before .before .before .before .before .before .before .before .before .loop .inv .3)
+loop-again-2 c = ((c .before .before .before .before .before .before .before .before .before .before .loop .inv .0), (c .before .before .before .before .before .before .before .before .before .before .loop .inv .1), do-other _ _ _ _ _ ((c .before .before .before .before .before .before .before .before .before .before .loop .inv .2)) ((c .before .before .before .before .before .before .before .before .before .instr .ensures)) ((c .before .before .before .before .before .before .before .if1 .left)) ((c .if6 .left)) ((c .before .before .before .before .before .if2 .left)) ((c .before .before .before .before .go .ensures)) ((c .before .before .if5 .taken)), c .before .before .before .before .before .before .before .before .before .before .loop .inv .3)
 
 alone-requires-2 : tie.Need-alone-requires-2 Inv-loop μ-loop
-alone-requires-2 c κs = (c .before .before .before .before .before .before .before .before .before .before .loop .inv .3)
+alone-requires-2 c κs = (c .before .before .before .before .before .before .before .before .before .before .before .before .loop .inv .3)
 
 -- src/lay.rt:73:17
 pass-requires-2 : tie.Need-pass-requires-2 Inv-loop μ-loop
-pass-requires-2 c κs = turn-passing _ _ _ _ _ ((c .before .before .before .before .before .before .before .before .before .before .before .before .before .loop .inv .2)) ((c .before .before .before .before .before .before .before .before .before .before .before .before .before .loop .inv .0)) ((c .before .before .before .before .before .before .before .before .before .before .before .before .before .loop .inv .1)) (c .before .before .alone2 .ensures)
+pass-requires-2 c κs = turn-passing _ _ _ _ _ ((c .before .before .before .before .before .before .before .before .before .before .before .before .before .before .loop .inv .2)) ((c .before .before .before .before .before .before .before .before .before .before .before .before .before .before .loop .inv .0)) ((c .before .before .before .before .before .before .before .before .before .before .before .before .before .before .loop .inv .1)) ((⊎-elim (λ w. alone-item (w .1 .ensures) (w .2)) (λ w. alone-other (w .0 .left) (c .before .before .before .before .before .before .before .before .before .before .before .before .before .before .loop .inv .3) (w .1)) (c .before .before .if8 .came)))
 
 -- src/lay.rt:77:17
 same-length-7 : tie.Need-same-length-7 Inv-loop μ-loop
-same-length-7 c = omega (arith, (c .before .before .before .before .before .before .pass2 .ensures .long), (c .before .before .before .before .before .before .before .before .before .before .before .before .before .before .before .before .before .before .before .before .loop .inv .2 .long))
+same-length-7 c = omega (arith, (c .before .before .before .before .before .before .pass2 .ensures .long), (c .before .before .before .before .before .before .before .before .before .before .before .before .before .before .before .before .before .before .before .before .before .loop .inv .2 .long))
 
 -- src/lay.rt:77:17
 same-length-8 : tie.Need-same-length-8 Inv-loop μ-loop
-same-length-8 c = omega (arith, (c .before .before .before .before .before .before .pass2 .ensures .room), (c .before .before .before .before .before .before .before .before .before .before .before .before .before .before .before .before .before .before .before .before .loop .inv .1))
+same-length-8 c = omega (arith, (c .before .before .before .before .before .before .pass2 .ensures .room), (c .before .before .before .before .before .before .before .before .before .before .before .before .before .before .before .before .before .before .before .before .before .loop .inv .1))
 
 -- src/lay.rt:77:17
 returns-4 : tie.Need-returns-4 Inv-loop μ-loop
-returns-4 c = do-rep-no _ _ _ _ _ ((c .before .before .before .before .before .before .before .before .before .before .before .before .before .before .before .before .before .before .before .before .loop .inv .2)) ((c .before .before .before .before .before .before .before .before .before .before .before .before .before .before .before .before .before .before .before .instr .ensures)) (omega (arith, (c .before .before .before .before .before .before .before .before .before .before .before .before .before .before .before .before .before .before .before .before .loop .inv .0 .deep), (c .before .before .before .before .before .before .before .before .before .before .before .before .before .before .before .before .before .before .before .before .loop .inv .2 .long))) ((c .before .before .before .before .before .before .before .before .before .before .if6 .taken)) ((c .before .before .before .before .before .before .before .before .before .before .before .before .before .before .go .ensures)) ((c .before .before .before .before .before .before .before .before .before .before .before .before .if4 .left)) ((c .before .before .before .before .before .before .pass2 .ensures)) (not-true _ ((c .if7 .taken)))
+returns-4 c = do-rep-no _ _ _ _ _ ((c .before .before .before .before .before .before .before .before .before .before .before .before .before .before .before .before .before .before .before .before .before .loop .inv .2)) ((c .before .before .before .before .before .before .before .before .before .before .before .before .before .before .before .before .before .before .before .before .instr .ensures)) (omega (arith, (c .before .before .before .before .before .before .before .before .before .before .before .before .before .before .before .before .before .before .before .before .before .loop .inv .0 .deep), (c .before .before .before .before .before .before .before .before .before .before .before .before .before .before .before .before .before .before .before .before .before .loop .inv .2 .long))) ((c .before .before .before .before .before .before .before .before .before .before .before .if7 .taken)) ((c .before .before .before .before .before .before .before .before .before .before .before .before .before .before .before .go .ensures)) ((c .before .before .before .before .before .before .before .before .before .before .before .before .before .if5 .left)) ((c .before .before .before .before .before .before .pass2 .ensures)) (not-true _ ((c .if9 .taken)))
 
 -- src/lay.rt:46:5
 loop-less-3 : tie.Need-loop-less-3 Inv-loop μ-loop
-loop-less-3 c = let u = do-up _ _ _ _ _ ((c .before .before .before .before .before .before .before .before .before .before .before .before .before .before .before .before .before .before .before .before .before .loop .inv .2)) ((c .before .before .before .before .before .before .before .before .before .before .before .before .before .before .before .before .before .before .before .before .instr .ensures)) ((c .before .before .before .before .before .before .before .pass2 .ensures)) (not-false _ ((c .before .if7 .left))) in omega (arith, u .0, u .1)
+loop-less-3 c = let u = do-up _ _ _ _ _ ((c .before .before .before .before .before .before .before .before .before .before .before .before .before .before .before .before .before .before .before .before .before .before .loop .inv .2)) ((c .before .before .before .before .before .before .before .before .before .before .before .before .before .before .before .before .before .before .before .before .before .instr .ensures)) ((c .before .before .before .before .before .before .before .pass2 .ensures)) (not-false _ ((c .before .if9 .left))) in omega (arith, u .0, u .1)
 
 -- src/lay.rt:46:5
 loop-again-3 : tie.Need-loop-again-3 Inv-loop μ-loop
-loop-again-3 c = ((c .before .before .before .before .before .before .before .before .before .before .before .before .before .before .before .before .before .before .before .before .before .loop .inv .0), (c .before .before .before .before .before .before .before .pass2 .ensures .room) ∙ (c .before .before .before .before .before .before .before .before .before .before .before .before .before .before .before .before .before .before .before .before .before .loop .inv .1), do-rep _ _ _ _ _ ((c .before .before .before .before .before .before .before .before .before .before .before .before .before .before .before .before .before .before .before .before .before .loop .inv .2)) ((c .before .before .before .before .before .before .before .before .before .before .before .before .before .before .before .before .before .before .before .before .instr .ensures)) (omega (arith, (c .before .before .before .before .before .before .before .before .before .before .before .before .before .before .before .before .before .before .before .before .before .loop .inv .0 .deep), (c .before .before .before .before .before .before .before .before .before .before .before .before .before .before .before .before .before .before .before .before .before .loop .inv .2 .long))) ((c .before .before .before .before .before .before .before .before .before .before .before .if6 .taken)) ((c .before .before .before .before .before .before .before .before .before .before .before .before .before .before .before .go .ensures)) ((c .before .before .before .before .before .before .before .before .before .before .before .before .before .if4 .left)) ((c .before .before .before .before .before .before .before .pass2 .ensures)) (not-false _ ((c .before .if7 .left))), c .before .before .before .before .before .before .before .before .before .before .alone2 .ensures .known)
+loop-again-3 c = ((c .before .before .before .before .before .before .before .before .before .before .before .before .before .before .before .before .before .before .before .before .before .before .loop .inv .0), (c .before .before .before .before .before .before .before .pass2 .ensures .room) ∙ (c .before .before .before .before .before .before .before .before .before .before .before .before .before .before .before .before .before .before .before .before .before .before .loop .inv .1), do-rep _ _ _ _ _ ((c .before .before .before .before .before .before .before .before .before .before .before .before .before .before .before .before .before .before .before .before .before .before .loop .inv .2)) ((c .before .before .before .before .before .before .before .before .before .before .before .before .before .before .before .before .before .before .before .before .before .instr .ensures)) (omega (arith, (c .before .before .before .before .before .before .before .before .before .before .before .before .before .before .before .before .before .before .before .before .before .before .loop .inv .0 .deep), (c .before .before .before .before .before .before .before .before .before .before .before .before .before .before .before .before .before .before .before .before .before .before .loop .inv .2 .long))) ((c .before .before .before .before .before .before .before .before .before .before .before .before .if7 .taken)) ((c .before .before .before .before .before .before .before .before .before .before .before .before .before .before .before .before .go .ensures)) ((c .before .before .before .before .before .before .before .before .before .before .before .before .before .before .if5 .left)) ((c .before .before .before .before .before .before .before .pass2 .ensures)) (not-false _ ((c .before .if9 .left))), let k = ⊎-elim (λ w. alone-item (w .1 .ensures) (w .2)) (λ w. alone-other (w .0 .left) (c .before .before .before .before .before .before .before .before .before .before .before .before .before .before .before .before .before .before .before .before .before .before .loop .inv .3) (w .1)) (c .before .before .before .before .before .before .before .before .before .before .if8 .came) in k .known)
 
 -- src/lay.rt:85:14
 add-pc-2 : tie.Need-add-pc-2 Inv-loop μ-loop
@@ -157,7 +158,7 @@ loop-less-4 c = omega (arith, turn-within _ _ _ _ _ ((c .before .before .before 
 
 -- src/lay.rt:46:5
 loop-again-4 : tie.Need-loop-again-4 Inv-loop μ-loop
-loop-again-4 c = ((c .before .before .before .before .before .before .before .before .before .before .loop .inv .0), (c .before .before .before .before .before .before .before .before .before .before .loop .inv .1), do-on _ _ _ _ _ ((c .before .before .before .before .before .before .before .before .before .before .loop .inv .2)) ((c .before .before .before .before .before .before .before .before .before .instr .ensures)) ((c .before .before .before .before .before .before .before .if1 .left)) ((c .before .before .before .before .before .if2 .left)) ((c .if6 .left)) ((c .before .before .before .before .go .ensures)) ((c .before .before .if4 .left)), c .before .before .before .before .before .before .before .before .before .before .loop .inv .3)
+loop-again-4 c = ((c .before .before .before .before .before .before .before .before .before .before .loop .inv .0), (c .before .before .before .before .before .before .before .before .before .before .loop .inv .1), do-on _ _ _ _ _ ((c .before .before .before .before .before .before .before .before .before .before .loop .inv .2)) ((c .before .before .before .before .before .before .before .before .before .instr .ensures)) ((c .before .before .before .before .before .before .before .if1 .left)) ((c .before .before .before .before .before .if2 .left)) ((c .if7 .left)) ((c .before .before .before .before .go .ensures)) ((c .before .before .if5 .left)), c .before .before .before .before .before .before .before .before .before .before .loop .inv .3)
 
 pub lay-spec : {M : Type 1} → statement M
 lay-spec =
