@@ -17,6 +17,7 @@ mod precedence;
 mod program;
 mod row;
 mod rows;
+mod single;
 mod text;
 mod texts;
 

@@ -6,6 +6,7 @@ use crate::lay::lay;
 use crate::precedence::groups;
 use crate::program::fits;
 use crate::rows::wide;
+use crate::single::single;
 use crate::text::string;
 use crate::texts::texts;
 use grammar::kinds::Kind;
@@ -201,6 +202,12 @@ fn headed(
     let kind = table[7 * i];
     let start = wide(table[7 * i + 2]);
     let lines = multi_line(own);
+    if first == i {
+        let x = single(s, table, i, lines);
+        if x.sure {
+            return x.yes;
+        }
+    }
     if !first_at(s, kind, start, lines) {
         return false;
     }
