@@ -4,7 +4,7 @@ use crate::program::fits;
 use crate::rows::wide;
 use crate::text::columns;
 use lexis::utf8::first_bad;
-ghost use Rattle.checker.specs.Check.{Rooted, Walking, Checks};
+ghost use Rattle.checker.specs.Check.{Rooted, Ready, Walking, Checks};
 
 mod family;
 mod kinds;
@@ -27,8 +27,12 @@ const EXPRESSION: u8 = 0;
 // The depth of the root: 64 levels, twice, and no line end.
 const TOP: u8 = 128;
 
-// Tables of at most so many rows have a small room.
+// Tables of at most so many rows have a smaller room.
 const FEW: usize = 512;
+
+const SOME: usize = 4096;
+
+const MANY: usize = 16384;
 
 // Whether the last of n rows can be the root: over all rows, an expression, from the first byte to the last.
 fn rooted(source: &[u8], table: &[u16], n: usize) -> bool
@@ -86,6 +90,35 @@ fn walk(
     }
 }
 
+// The walk in a room as small as will do, since all of it is cleared.
+fn roomed(source: &[u8], table: &[u16], text: &[u8], n: usize) -> bool
+    requires { ⌜ Ready (now source) (now table) n ⌝ }
+    ensures { λ r. ⌜ Checks (now (source .entry)) (now (table .entry)) (now (text .entry)) r ⌝ }
+{
+    if n <= FEW {
+        let mut marks = [0u16; 512];
+        let mut depths = [0u8; 512];
+        let mut keys = [0u16; 512];
+        return walk(source, table, text, n, &mut marks, &mut depths, &mut keys);
+    }
+    if n <= SOME {
+        let mut marks = [0u16; 4096];
+        let mut depths = [0u8; 4096];
+        let mut keys = [0u16; 4096];
+        return walk(source, table, text, n, &mut marks, &mut depths, &mut keys);
+    }
+    if n <= MANY {
+        let mut marks = [0u16; 16384];
+        let mut depths = [0u8; 16384];
+        let mut keys = [0u16; 16384];
+        return walk(source, table, text, n, &mut marks, &mut depths, &mut keys);
+    }
+    let mut marks = [0u16; 65535];
+    let mut depths = [0u8; 65535];
+    let mut keys = [0u16; 65535];
+    walk(source, table, text, n, &mut marks, &mut depths, &mut keys)
+}
+
 // Whether a table and a text are the reading of a source.
 pub fn check(source: &[u8], table: &[u16], text: &[u8]) -> bool
     ensures { λ r. ⌜ Checks (now (source .entry)) (now (table .entry)) (now (text .entry)) r ⌝ }
@@ -103,14 +136,5 @@ pub fn check(source: &[u8], table: &[u16], text: &[u8]) -> bool
     if first_bad(source) != source.len() {
         return false;
     }
-    if n <= FEW {
-        let mut marks = [0u16; 512];
-        let mut depths = [0u8; 512];
-        let mut keys = [0u16; 512];
-        return walk(source, table, text, n, &mut marks, &mut depths, &mut keys);
-    }
-    let mut marks = [0u16; 65535];
-    let mut depths = [0u8; 65535];
-    let mut keys = [0u16; 65535];
-    walk(source, table, text, n, &mut marks, &mut depths, &mut keys)
+    roomed(source, table, text, n)
 }
