@@ -37,9 +37,9 @@ pub record Ready (s table : List ℕ) (n : ℕ) : Type 0 where
   pub rows : length table ≡ 7 * n
   pub root : Root s table n
 
--- what the walk asks for: a place for each row too
+-- what the walk asks for: a place for each row too, and a slot of four numbers for its key
 pub record Walking (s table : List ℕ) (n : ℕ) (m D K : List ℕ) : Type 0 where
   pub ready : Ready s table n
   pub marked : n ≤ length m
   pub deep : n ≤ length D
-  pub keyed : n ≤ length K
+  pub keyed : 4 * n ≤ length K

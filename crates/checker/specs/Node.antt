@@ -21,14 +21,22 @@ use Rattle.checker.specs.Leaf.{kindsBy, isGrown, readAs, Spelt}
 use Rattle.checker.specs.Lay.{coded, depthsAt}
 use Rattle.checker.specs.Texts.{Sanes, Spelts}
 
--- what the code asks for at the row i, whose own depth is `own`
+-- what the code of a text asks for at the row i
+pub record Heading (s t : List ℕ) (i : ℕ) (m D : List ℕ) : Type 0 where
+  pub short : length s ≤ 65535
+  pub within : 7 * i + 7 ≤ length t
+  pub small : i ≤ 65535
+  pub marked : i < length m
+  pub deep : i < length D
+
+-- what any other asks for, whose own depth is `own`: a slot for the keys of an object too
 pub record Noding (s t : List ℕ) (i : ℕ) (m D K : List ℕ) (own : ℕ) : Type 0 where
   pub short : length s ≤ 65535
   pub within : 7 * i + 7 ≤ length t
   pub small : i ≤ 65535
   pub marked : i < length m
   pub deep : i < length D
-  pub keyed : i < length K
+  pub keyed : 4 * i + 4 ≤ length K
 
 -- the kinds without literal text
 abbrev pub NoText : ℕ → Type 0

@@ -58,7 +58,7 @@ fn rooted(source: &[u8], table: &[u16], n: usize) -> bool
 }
 
 // The rule at each of n rows, from the last one backwards. `marks` links the children of a row, `depths` holds what the rows to come are under, and
-// `keys` the keys of an object.
+// `keys` the keys of an object, in slots of four numbers.
 fn walk(
     source: &[u8],
     table: &[u16],
@@ -98,24 +98,24 @@ fn roomed(source: &[u8], table: &[u16], text: &[u8], n: usize) -> bool
     if n <= FEW {
         let mut marks = [0u16; 512];
         let mut depths = [0u8; 512];
-        let mut keys = [0u16; 512];
+        let mut keys = [0u16; 2048];
         return walk(source, table, text, n, &mut marks, &mut depths, &mut keys);
     }
     if n <= SOME {
         let mut marks = [0u16; 4096];
         let mut depths = [0u8; 4096];
-        let mut keys = [0u16; 4096];
+        let mut keys = [0u16; 65536];
         return walk(source, table, text, n, &mut marks, &mut depths, &mut keys);
     }
     if n <= MANY {
         let mut marks = [0u16; 16384];
         let mut depths = [0u8; 16384];
-        let mut keys = [0u16; 16384];
+        let mut keys = [0u16; 65536];
         return walk(source, table, text, n, &mut marks, &mut depths, &mut keys);
     }
     let mut marks = [0u16; 65535];
     let mut depths = [0u8; 65535];
-    let mut keys = [0u16; 65535];
+    let mut keys = [0u16; 262140];
     walk(source, table, text, n, &mut marks, &mut depths, &mut keys)
 }
 

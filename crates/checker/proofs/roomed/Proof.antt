@@ -1,3 +1,5 @@
+use native.Mathlib.Omega.{arith}
+use Prim.Native.Nat.{_-_, _+_, _*_, _<_, _≤_}
 use borrow.Author.Needs.{needs}
 use Rattle.checker.proofs.roomed.Statement.{statement}
 use Rattle.checker.proofs.roomed.Tie as tie
@@ -39,7 +41,7 @@ slice-aggregate-walk-6 c = search needs
 
 -- src/lib.rt:106:9
 walk-requires-2 : tie.Need-walk-requires-2
-walk-requires-2 c κs = search needs
+walk-requires-2 c κs = record { ready = (c .before .before .before .before .before .before .before .before .pre); marked = (c .before .before .before .if2 .taken); deep = (c .before .before .before .if2 .taken); keyed = omega (arith, (c .before .before .before .if2 .taken)) }
 
 -- src/lib.rt:106:9
 returns-2 : tie.Need-returns-2
@@ -59,7 +61,7 @@ slice-aggregate-walk-9 c = search needs
 
 -- src/lib.rt:112:9
 walk-requires-3 : tie.Need-walk-requires-3
-walk-requires-3 c κs = search needs
+walk-requires-3 c κs = record { ready = (c .before .before .before .before .before .before .before .before .before .pre); marked = (c .before .before .before .if3 .taken); deep = (c .before .before .before .if3 .taken); keyed = omega (arith, (c .before .before .before .if3 .taken)) }
 
 -- src/lib.rt:112:9
 returns-3 : tie.Need-returns-3
@@ -79,7 +81,7 @@ slice-aggregate-walk-12 c = search needs
 
 -- src/lib.rt:117:5
 walk-requires-4 : tie.Need-walk-requires-4
-walk-requires-4 c κs = record { ready = (c .before .before .before .before .before .before .before .before .before .pre); marked = (c .before .before .before .before .before .before .before .before .before .pre .root .small); deep = (c .before .before .before .before .before .before .before .before .before .pre .root .small); keyed = (c .before .before .before .before .before .before .before .before .before .pre .root .small) }
+walk-requires-4 c κs = record { ready = (c .before .before .before .before .before .before .before .before .before .pre); marked = (c .before .before .before .before .before .before .before .before .before .pre .root .small); deep = (c .before .before .before .before .before .before .before .before .before .pre .root .small); keyed = omega (arith, (c .before .before .before .before .before .before .before .before .before .pre .root .small)) }
 
 -- src/lib.rt:92:1
 returns-4 : tie.Need-returns-4

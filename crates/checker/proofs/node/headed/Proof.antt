@@ -74,7 +74,7 @@ levels-requires c κs = search needs
 
 -- src/node.rt:214:5
 lay-requires : tie.Need-lay-requires
-lay-requires c κs = record { within = (c .before .before .before .before .before .before .before .before .before .before .before .before .before .before .before .before .pre .0 .within); marked = (c .before .before .before .before .before .before .before .before .before .before .before .before .before .before .before .before .pre .0 .marked); deep = (c .before .before .before .before .before .before .before .before .before .before .before .before .before .before .before .before .pre .0 .deep); keyed = (c .before .before .before .before .before .before .before .before .before .before .before .before .before .before .before .before .pre .0 .keyed); few = (c .levels .ensures .1); js = (c .before .before .before .before .before .before .before .before .before .before .before .before .before .before .before .before .pre .1 .js); chain = (c .before .before .before .before .before .before .before .before .before .before .before .before .before .before .before .before .pre .1 .chain); known = head-known (c .before .before .before .before .before .before .before .before .before .before .before .before .before .before .before .before .args .s .now) (c .before .before .before .before .before .before .before .before .before .before .before .before .before .before .before .before .args .table .now) (c .before .before .before .before .before .before .before .before .before .before .before .before .before .before .before .before .args .i) (c .before .before .before .before .before .before .before .before .before .before .before .before .before .before .before .before .args .own) [] [] [] 0 (c .before .before .before .before .before .before .before .before .before .before .before .before .before .before .before .before .pre .2) (c .before .before .before .before .before .before .before .before .before .before .before .before .before .before .before .before .pre .3) (not-false _ (c .before .before .before .if3 .left)) (first-as (c .before .before .before .before .before .before .before .wide .ensures .0) (c .before .before .before .before .before .before .multi-line .ensures) (c .before .before .before .before .first-at .ensures)) }
+lay-requires c κs = record { within = (c .before .before .before .before .before .before .before .before .before .before .before .before .before .before .before .before .pre .0 .within); marked = (c .before .before .before .before .before .before .before .before .before .before .before .before .before .before .before .before .pre .0 .marked); deep = (c .before .before .before .before .before .before .before .before .before .before .before .before .before .before .before .before .pre .0 .deep); keyed = (c .before .before .before .before .before .before .before .before .before .before .before .before .before .before .before .before .pre .0 .keyed); small = (c .before .before .before .before .before .before .before .before .before .before .before .before .before .before .before .before .pre .0 .small); few = (c .levels .ensures .1); js = (c .before .before .before .before .before .before .before .before .before .before .before .before .before .before .before .before .pre .1 .js); chain = (c .before .before .before .before .before .before .before .before .before .before .before .before .before .before .before .before .pre .1 .chain); known = head-known (c .before .before .before .before .before .before .before .before .before .before .before .before .before .before .before .before .args .s .now) (c .before .before .before .before .before .before .before .before .before .before .before .before .before .before .before .before .args .table .now) (c .before .before .before .before .before .before .before .before .before .before .before .before .before .before .before .before .args .i) (c .before .before .before .before .before .before .before .before .before .before .before .before .before .before .before .before .args .own) [] [] [] 0 (c .before .before .before .before .before .before .before .before .before .before .before .before .before .before .before .before .pre .2) (c .before .before .before .before .before .before .before .before .before .before .before .before .before .before .before .before .pre .3) (not-false _ (c .before .before .before .if3 .left)) (first-as (c .before .before .before .before .before .before .before .wide .ensures .0) (c .before .before .before .before .before .before .multi-line .ensures) (c .before .before .before .before .first-at .ensures)) }
 
 -- src/node.rt:188:1
 same-length : tie.Need-same-length
