@@ -30,9 +30,11 @@ const TOP: u8 = 128;
 // Tables of at most so many rows have a smaller room.
 const FEW: usize = 512;
 
-const SOME: usize = 4096;
+const SOME: usize = 2048;
 
-const MANY: usize = 16384;
+const MANY: usize = 6144;
+
+const MOST: usize = 18432;
 
 // Whether the last of n rows can be the root: over all rows, an expression, from the first byte to the last.
 fn rooted(source: &[u8], table: &[u16], n: usize) -> bool
@@ -102,15 +104,21 @@ fn roomed(source: &[u8], table: &[u16], text: &[u8], n: usize) -> bool
         return walk(source, table, text, n, &mut marks, &mut depths, &mut keys);
     }
     if n <= SOME {
-        let mut marks = [0u16; 4096];
-        let mut depths = [0u8; 4096];
-        let mut keys = [0u16; 65536];
+        let mut marks = [0u16; 2048];
+        let mut depths = [0u8; 2048];
+        let mut keys = [0u16; 8192];
         return walk(source, table, text, n, &mut marks, &mut depths, &mut keys);
     }
     if n <= MANY {
-        let mut marks = [0u16; 16384];
-        let mut depths = [0u8; 16384];
-        let mut keys = [0u16; 65536];
+        let mut marks = [0u16; 6144];
+        let mut depths = [0u8; 6144];
+        let mut keys = [0u16; 24576];
+        return walk(source, table, text, n, &mut marks, &mut depths, &mut keys);
+    }
+    if n <= MOST {
+        let mut marks = [0u16; 18432];
+        let mut depths = [0u8; 18432];
+        let mut keys = [0u16; 73728];
         return walk(source, table, text, n, &mut marks, &mut depths, &mut keys);
     }
     let mut marks = [0u16; 65535];
