@@ -102,7 +102,7 @@ layout-as k = go (eqb k 14) refl
     go true e = ap layoutOf (sym (eqb-true k 14 e))
     go false e = refl
 
-named-as : (s : List ℕ) (k : ℕ) → named (hcl s) (styleOf k) (readAs k) ≡ k
+pub named-as : (s : List ℕ) (k : ℕ) → named (hcl s) (styleOf k) (readAs k) ≡ k
 named-as s k = go (eqb k 14) refl
   where
     go : (b : Bool) → eqb k 14 ≡ b → named (hcl s) (cond b 1 0) (cond b 5 k) ≡ k

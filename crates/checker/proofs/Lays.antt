@@ -11,6 +11,9 @@ use lib.Seq.{getD-set-same, getD-set-other}
 use lib.Dec.{eqb, eqb→eq, ltb, ltb→lt, T}
 use borrow.Author.Tests.{eqb-true, eq-eqb}
 use Rattle.lexis.specs.RunLaws.{clash}
+use Rattle.index.specs.Index.{Indexed}
+use Rattle.index.specs.Index as index
+use Rattle.index.specs.IndexLaws.{indexed-none}
 use Rattle.engine.specs.Base.{Rec, has, allOf}
 use Rattle.engine.specs.BaseLaws.{and-t, or-t, has-all, some-is}
 use Rattle.engine.specs.Layout.{Lay, bad, fin, move, kid, fork, rep}
@@ -132,7 +135,7 @@ some-left m i [] j c n = λ e. n c
 some-left m i (x ∷ js) j c n = λ e. absurd (let z : _≡_ {A = ℕ} 0 1 = cc in omega arith)
 
 pub keys-none : (s K : List ℕ) → KeysOf s K 0 []
-unfolding lones
+unfolding lones index.startsOf
 keys-none s K p = refl
 
 -- ---- what the prover computed of a kind
@@ -190,6 +193,7 @@ module _ (s t : List ℕ) (i left : ℕ) (lines : Bool) where
     pub below : Below past j
     pub up : j₀ ≤ j
     pub few : n ≤ j
+    pub indexed : Indexed s K 0 n
     pub long : length D ≡ length D₀
     pub same : (x : ℕ) → x < j₀ → getD D x 0 ≡ getD D₀ x 0
     pub lay : Layout
@@ -210,6 +214,7 @@ module _ (s t : List ℕ) (i left : ℕ) (lines : Bool) where
     below = tt;
     up = omega arith;
     few = omega arith;
+    indexed = indexed-none s K 0 (omega arith);
     long = refl;
     same = λ x l. refl;
     lay = layoutOf kind;
@@ -345,6 +350,7 @@ module _ (s t : List ℕ) (i left : ℕ) (lines : Bool) where
       below = w .below;
       up = w .up;
       few = w .few;
+      indexed = w .indexed;
       long = w .long;
       same = w .same;
       lay = l;
@@ -521,6 +527,7 @@ module _ (s t : List ℕ) (i left : ℕ) (lines : Bool) where
             below = below-snoc (w .past) j (r .next) (omega arith) (w .below);
             up = omega (arith, w .up);
             few = omega (arith, w .few);
+            indexed = h .indexed z;
             long = h .long ∙ w .long;
             same = λ x u. ap (λ (o : List ℕ). getD o x 0) put ∙ getD-set-other D j x (h .value) 0 (λ (e : x ≡ j). omega (arith, w .up)) ∙ w .same x u;
             lay = l;
@@ -651,6 +658,8 @@ module _ (s t : List ℕ) (i left : ℕ) (lines : Bool) where
       marked = a .marked;
       deep = omega (arith, a .deep, w .long);
       keyed = omega (arith, a .keyed, e);
+      small = a .small;
+      indexed = w .indexed;
       fewer = w .few;
       few = a .few;
       told = h .yes;

@@ -17,6 +17,7 @@ pub mod Spellings
 pub mod Tellings
 pub mod Strings
 mod Heads
+mod Singles
 mod TextHeads
 mod Growns
 mod Nodes

@@ -8,8 +8,9 @@ use native.Mathlib.Nat.{sub-zero}
 use lib.ListN.{length, getD, set, take, drop, length-set}
 use lib.Dec.{eqb, T}
 use borrow.Author.Tests.{eqb-true, eqb-false, eq-eqb, ne-eqb}
-use Rattle.lexis.specs.Keys.{among, sameKey, metBefore}
-use Rattle.lexis.specs.Heredoc.{part}
+use Rattle.lexis.specs.Keys.{among, sameKey}
+use Rattle.index.specs.Index.{Indexed, Inserted}
+use Rattle.index.specs.Index as index
 use Rattle.lexis.specs.RunLaws.{clash}
 use Rattle.engine.specs.Base.{Rec, has}
 use Rattle.grammar.specs.declared.shape.Child.{Child}
@@ -53,11 +54,6 @@ module _ {t : List ℕ} {j at n w : ℕ} where
 
 -- ---- its key
 
-take-set : (K : List ℕ) (n p : ℕ) → n < length K → take (suc n) (set K n p) ≡ take n K ++ p ∷ []
-take-set [] n p l = absurd (omega arith)
-take-set (x ∷ K) zero p l = refl
-take-set (x ∷ K) (suc n) p l = ap (λ (o : List ℕ). x ∷ o) (take-set K n p (omega arith))
-
 or-no : (a : Bool) → (a || false) ≡ a
 or-no true = refl
 or-no false = refl
@@ -89,23 +85,18 @@ lones-no : (s : List ℕ) (x : Rec ℕ) (ks : List (Rec ℕ)) → lone s (x .sta
 unfolding lones
 lones-no s x ks e = rw e
 
-part-set : (K : List ℕ) (n p : ℕ) → n < length K → part (set K n p) 0 (n + 1) ≡ part K 0 n ++ p ∷ []
-part-set K n p l =
-    let e : n + 1 - 0 ≡ suc n = omega arith in
-    let f : n - 0 ≡ n = omega arith in
-    rw (e, f) (take-set K n p l)
-
 abbrev met : Bool → ℕ → Met
 met b n = record { met = b; keys = n }
 
-module _ (s K : List ℕ) (n p w : ℕ) where
+module _ (s K : List ℕ) (n p w : ℕ) (ix : Indexed s K 0 n) where
   pub met-other : ¬ (w ≡ 4) → MetAt s K K n p w (met false n)
-  met-other f = record { long = refl; few = omega arith; new = λ z e. absurd (f e); old = λ z. clash (sym z); kept = λ z e. absurd (f e) }
+  met-other f = record { long = refl; few = omega arith; indexed = λ z. ix; new = λ z e. absurd (f e); old = λ z. clash (sym z); kept = λ z e. absurd (f e) }
 
   pub met-loose : lone s p ≡ false → MetAt s K K n p w (met false n)
   met-loose e = record {
     long = refl;
     few = omega arith;
+    indexed = λ z. ix;
     new = λ z f ks k. rw e tt;
     old = λ z. clash (sym z);
     kept = λ z f ks x g k y. k y ∙ ap (λ (o : List ℕ). among s o y) (sym (lones-no s x ks (ap (lone s) g ∙ e)));
@@ -121,17 +112,18 @@ module _ (s K : List ℕ) (n p w : ℕ) where
   no-both true false e = tt
   no-both false b e = tt
 
-  pub met-old : w ≡ 4 → lone s p ≡ true → metBefore s K 0 n p ≡ true → MetAt s K K n p w (met true n)
-  met-old f e g = record { long = refl; few = omega arith; new = λ z. clash z; old = λ z. (f, λ ks k. not-both (lone s p) (among s (lones s (starts ks)) p) e (sym (k p) ∙ g)); kept = λ z. clash z }
+  pub met-old : w ≡ 4 → lone s p ≡ true → among s (index.starts K 0 n) p ≡ true → MetAt s K K n p w (met true n)
+  met-old f e g = record { long = refl; few = omega arith; indexed = λ z. clash z; new = λ z. clash z; old = λ z. (f, λ ks k. not-both (lone s p) (among s (lones s (starts ks)) p) e (sym (k p) ∙ g)); kept = λ z. clash z }
 
-  pub met-new : n < length K → lone s p ≡ true → metBefore s K 0 n p ≡ false → MetAt s K (set K n p) n p w (met false (n + 1))
+  pub met-new : {K′ : List ℕ} → Inserted s K K′ 0 n p → lone s p ≡ true → among s (index.starts K 0 n) p ≡ false → MetAt s K K′ n p w (met false (n + 1))
   met-new l e g = record {
-    long = length-set K n p;
+    long = l .long;
     few = omega arith;
+    indexed = λ z. l .indexed;
     new = λ z f ks k. no-both (lone s p) (among s (lones s (starts ks)) p) (sym (k p) ∙ g);
     old = λ z. clash (sym z);
     kept = λ z f ks x h k y.
-        ap (λ (o : List ℕ). among s o y) (part-set K n p l) ∙ among-snoc s (part K 0 n) p y ∙ ap (λ (o : Bool). o || sameKey s p y) (k y) ∙ or-swap (among s (lones s (starts ks)) y) (sameKey s p y)
+        ap (λ (o : List ℕ). among s o y) (l .starts) ∙ among-snoc s (index.starts K 0 n) p y ∙ ap (λ (o : Bool). o || sameKey s p y) (k y) ∙ or-swap (among s (lones s (starts ks)) y) (sameKey s p y)
         ∙ ap (λ (o : ℕ). sameKey s o y || among s (lones s (starts ks)) y) (sym h) ∙ sym (among-cons s (lones s (starts ks)) (x .start) y) ∙ ap (λ (o : List ℕ). among s o y) (sym (lones-yes s x ks (ap (lone s) h ∙ e)));
   }
 
@@ -167,6 +159,7 @@ module _ (s t : List ℕ) (i : ℕ) (m D K : List ℕ) (j n c left : ℕ) (lines
         long = refl;
         room = l;
         few = rw e (omega arith);
+        indexed = λ z. clash (sym z ∙ g);
         still = λ z. refl;
         inside = λ z. clash (sym z ∙ g);
         start = λ z. clash (sym z ∙ g);
@@ -213,6 +206,7 @@ module _ (s t : List ℕ) (i : ℕ) (m D K : List ℕ) (j n c left : ℕ) (lines
       long = length-set D j v;
       room = k .long;
       few = omega (arith, k .few);
+      indexed = λ z. subst (Indexed s K′ 0) (sym q) (k .indexed f);
       still = λ z. clash (sym g ∙ z);
       inside = λ z. l;
       start = λ o. u .start z;

@@ -12,6 +12,6 @@ pub ended : (s text t : List ℕ) (n : ℕ) {m D₀ K D : List ℕ} {i u : ℕ} 
 ended s text t n {D = D} {i} {u} a w e =
     let w₀ : Walked s text t n D 0 u = subst (λ (x : ℕ). Walked s text t n D x u) e w in
     record {
-      yes = λ z. end-yes s text t n (a .rows) w₀ (eqb-true u 0 z) (a .short) (a .formed) (a .root .some) (a .root .count) (a .root .kind) (a .root .start) (a .root .end);
-      no = λ z. end-no s text t n (a .rows) w₀ (eqb-false u 0 z);
+      yes = λ z. end-yes s text t n (a .ready .rows) w₀ (eqb-true u 0 z) (a .ready .short) (a .ready .formed) (a .ready .root .some) (a .ready .root .count) (a .ready .root .kind) (a .ready .root .start) (a .ready .root .end);
+      no = λ z. end-no s text t n (a .ready .rows) w₀ (eqb-false u 0 z);
     }

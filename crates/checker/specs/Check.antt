@@ -30,12 +30,16 @@ pub record Rooted (s table : List ℕ) (n : ℕ) (r : Bool) : Type 0 where
   pub yes : r ≡ true → Root s table n
   pub no : r ≡ false → length table ≡ 7 * n → (text : List ℕ) → Holds s table text → ⊥
 
--- what the walk over n rows asks for: a source that is well formed and not too long, n rows, and a place for each
-pub record Walking (s table : List ℕ) (n : ℕ) (m D K : List ℕ) : Type 0 where
+-- a source that is well formed and not too long, and n rows that can be walked over
+pub record Ready (s table : List ℕ) (n : ℕ) : Type 0 where
   pub short : length s ≤ 65535
   pub formed : Formed s
   pub rows : length table ≡ 7 * n
   pub root : Root s table n
+
+-- what the walk asks for: a place for each row too, and a slot of four numbers for its key
+pub record Walking (s table : List ℕ) (n : ℕ) (m D K : List ℕ) : Type 0 where
+  pub ready : Ready s table n
   pub marked : n ≤ length m
   pub deep : n ≤ length D
-  pub keyed : n ≤ length K
+  pub keyed : 4 * n ≤ length K

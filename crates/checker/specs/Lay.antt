@@ -6,7 +6,8 @@ use mathlib.Core.Bool.{Bool, true, false, not, _&&_}
 use lib.ListN.{length, getD, set}
 use lib.Dec.{T, eqb}
 use Rattle.lexis.specs.Keys.{among}
-use Rattle.lexis.specs.Heredoc.{part}
+use Rattle.index.specs.Index.{Indexed}
+use Rattle.index.specs.Index as index
 use Rattle.engine.specs.Base.{Rec, has}
 use Rattle.engine.specs.Rule.{Runs}
 use Rattle.grammar.specs.Kinds.{tightOf}
@@ -36,9 +37,9 @@ depthsAt D js = map (λ j. coded (getD D j 0)) js
 abbrev pub Both : List ℕ → Under → Class → Rec ℕ → Type 0
 Both s d c r = (bounds c < tightOf (r .kind)) × Suits s (d .want, styles c) r
 
--- the first n of K are the starts of those of some items whose keys may be compared, as far as a search can tell
+-- the keys in the first n slots of K are those of some items whose keys may be compared, as far as a search can tell
 abbrev pub KeysOf : List ℕ → List ℕ → ℕ → List (Rec ℕ) → Type 0
-KeysOf s K n ks = (p : ℕ) → among s (part K 0 n) p ≡ among s (lones s (starts ks)) p
+KeysOf s K n ks = (p : ℕ) → among s (index.starts K 0 n) p ≡ among s (lones s (starts ks)) p
 
 -- `r` says whether the row j starts at `at`, is not empty, binds tighter than n and is of a kind that is wanted
 pub record SuitsAt (t : List ℕ) (j at n w : ℕ) (r : Bool) : Type 0 where
@@ -47,10 +48,17 @@ pub record SuitsAt (t : List ℕ) (j at n w : ℕ) (r : Bool) : Type 0 where
   pub kind : r ≡ true → T (has (kindsBy w) ((rowAt t j) .kind))
   pub no : r ≡ false → (rowAt t j) .start ≡ at → (rowAt t j) .start < (rowAt t j) .end → n < tightOf ((rowAt t j) .kind) → T (has (kindsBy w) ((rowAt t j) .kind)) → ⊥
 
--- `r` says whether the key at p, of an item, was met among the first n of K; where it may be compared it is kept
+-- what `meet` asks for: n slots with the keys so far, and room for one more
+pub record Meeting (s K : List ℕ) (n : ℕ) : Type 0 where
+  pub indexed : Indexed s K 0 n
+  pub room : 4 * n + 4 ≤ length K
+  pub few : n ≤ 65535
+
+-- `r` says whether the key at p, of an item, was met in the first n slots of K; where it may be compared it is kept
 pub record MetAt (s K K′ : List ℕ) (n p w : ℕ) (r : Met) : Type 0 where
   pub long : length K′ ≡ length K
   pub few : r .keys ≤ n + 1
+  pub indexed : r .met ≡ false → Indexed s K′ 0 (r .keys)
   pub new : r .met ≡ false → w ≡ 4 → (ks : List (Rec ℕ)) → KeysOf s K n ks → T (not (lone s p && among s (lones s (starts ks)) p))
   pub old : r .met ≡ true → (w ≡ 4) × ((ks : List (Rec ℕ)) → KeysOf s K n ks → T (not (lone s p && among s (lones s (starts ks)) p)) → ⊥)
   pub kept : r .met ≡ false → w ≡ 4 → (ks : List (Rec ℕ)) (x : Rec ℕ) → x .start ≡ p → KeysOf s K n ks → KeysOf s K′ (r .keys) (x ∷ ks)
@@ -64,7 +72,9 @@ pub record Passing (s t : List ℕ) (i : ℕ) (m D K : List ℕ) (j n c left at 
   pub linked : (j < i → getD m j 0 ≤ i) × (j ≤ i)
   pub marked : i < length m
   pub deep : i < length D
-  pub keyed : i < length K
+  pub keyed : 4 * i + 4 ≤ length K
+  pub small : i ≤ 65535
+  pub indexed : Indexed s K 0 n
   pub fewer : n ≤ j
   pub few : left ≤ 127
   pub told : classIn c ≡ entry → alone ≡ lone s at
@@ -74,6 +84,7 @@ pub record PassedBy (s t : List ℕ) (i : ℕ) (m D D′ K K′ : List ℕ) (j n
   pub long : length D′ ≡ length D
   pub room : length K′ ≡ length K
   pub few : r .keys ≤ n + 1
+  pub indexed : r .good ≡ true → Indexed s K′ 0 (r .keys)
   pub still : r .good ≡ false → D′ ≡ D
   pub inside : r .good ≡ true → j < i
   pub start : r .good ≡ true → (rowAt t j) .start ≡ at
@@ -108,7 +119,8 @@ pub record Laying (t : List ℕ) (i : ℕ) (m D K : List ℕ) (j left : ℕ) : T
   pub within : 7 * i + 7 ≤ length t
   pub marked : i < length m
   pub deep : i < length D
-  pub keyed : i < length K
+  pub keyed : 4 * i + 4 ≤ length K
+  pub small : i ≤ 65535
   pub few : left ≤ 127
   pub js : List ℕ
   pub chain : Chain m i js j

@@ -1,8 +1,9 @@
 -- The rule at one row: what the code of it promises.
-use Prim.Native.Nat.{ℕ, zero, suc, _+_, _*_, _/_, _≤_, _<_}
+use Prim.Native.Nat.{ℕ, zero, suc, _+_, _*_, _/_, _%_, _≤_, _<_}
 use mathlib.Core.Path.{_≡_}
 use mathlib.Core.List.{List, [], _∷_, map}
 use mathlib.Core.Bool.{Bool, true, false}
+use mathlib.Core.Logic.{_⊎_}
 use lib.ListN.{length, getD}
 use lib.Dec.{T, eqb}
 use Rattle.lexis.specs.String.{quoted}
@@ -15,18 +16,27 @@ use Rattle.grammar.specs.Said.{kindOf}
 use Rattle.grammar.specs.Published.{Depth, Laid, Rule}
 use Rattle.checker.specs.Rows.{rowAt, rows, recAt}
 use Rattle.checker.specs.Family.{Chain}
-use Rattle.checker.specs.Leaf.{kindsBy, isGrown, Spelt}
+use Rattle.checker.specs.declared.single.Look.{Look}
+use Rattle.checker.specs.Leaf.{kindsBy, isGrown, readAs, Spelt}
 use Rattle.checker.specs.Lay.{coded, depthsAt}
 use Rattle.checker.specs.Texts.{Sanes, Spelts}
 
--- what the code asks for at the row i, whose own depth is `own`
+-- what the code of a text asks for at the row i
+pub record Heading (s t : List ℕ) (i : ℕ) (m D : List ℕ) : Type 0 where
+  pub short : length s ≤ 65535
+  pub within : 7 * i + 7 ≤ length t
+  pub small : i ≤ 65535
+  pub marked : i < length m
+  pub deep : i < length D
+
+-- what any other asks for, whose own depth is `own`: a slot for the keys of an object too
 pub record Noding (s t : List ℕ) (i : ℕ) (m D K : List ℕ) (own : ℕ) : Type 0 where
   pub short : length s ≤ 65535
   pub within : 7 * i + 7 ≤ length t
   pub small : i ≤ 65535
   pub marked : i < length m
   pub deep : i < length D
-  pub keyed : i < length K
+  pub keyed : 4 * i + 4 ≤ length K
 
 -- the kinds without literal text
 abbrev pub NoText : ℕ → Type 0
@@ -46,6 +56,19 @@ pub record RuleBy (s text t : List ℕ) (i : ℕ) (m D D′ : List ℕ) (j own :
   pub word : r ≡ true → Worded s text t i
   pub only : r ≡ true → (js : List ℕ) → Chain m i js j → (ds : List Depth) → Laid s (coded own) (recAt t i) (map (recAt t) js) ds → depthsAt D′ js ≡ ds
   pub no : r ≡ false → (js : List ℕ) → Chain m i js j → Sanes s text t (round s ((rowAt t i) .start)) js → Worded s text t i → (ds : List Depth) → Laid s (coded own) (recAt t i) (map (recAt t) js) ds → ⊥
+
+-- a kind that may be a word's or a number's; a bare key is a word
+abbrev pub Token : ℕ → Type 0
+Token k = (k ≤ 5) ⊎ (k ≡ 14)
+
+-- `r` says whether the row i is read as the kind k, ends at e and has the flag 0
+pub record TokenAt (t : List ℕ) (i k e : ℕ) (r : Bool) : Type 0 where
+  pub yes : r ≡ true → (readAs ((rowAt t i) .kind) ≡ k) × ((rowAt t i) .end ≡ e) × ((rowAt t i) .flag ≡ 0)
+  pub no : r ≡ false → readAs ((rowAt t i) .kind) ≡ k → (rowAt t i) .end ≡ e → (rowAt t i) .flag ≡ 0 → ⊥
+
+-- `r` says of the row i, which has no children, whether the rule holds at it, where it is sure
+pub record SingleBy (s t : List ℕ) (i : ℕ) (lines : Bool) (r : Look) : Type 0 where
+  pub rule : r .sure ≡ true → (own : ℕ) → lines ≡ eqb (own % 2) 1 → (text m D : List ℕ) → RuleBy s text t i m D D i own (r .yes)
 
 -- `r` says whether the row l may be the left operand of the row i, in a mode: it starts where that does, is an expression that holds against the
 -- operator, and the operator follows it

@@ -4,7 +4,7 @@ use crate::program::fits;
 use crate::rows::wide;
 use crate::text::columns;
 use lexis::utf8::first_bad;
-ghost use Rattle.checker.specs.Check.{Rooted, Walking, Checks};
+ghost use Rattle.checker.specs.Check.{Rooted, Ready, Walking, Checks};
 
 mod family;
 mod kinds;
@@ -17,6 +17,7 @@ mod precedence;
 mod program;
 mod row;
 mod rows;
+mod single;
 mod text;
 mod texts;
 
@@ -26,8 +27,14 @@ const EXPRESSION: u8 = 0;
 // The depth of the root: 64 levels, twice, and no line end.
 const TOP: u8 = 128;
 
-// Tables of at most so many rows have a small room.
+// Tables of at most so many rows have a smaller room.
 const FEW: usize = 512;
+
+const SOME: usize = 2048;
+
+const MANY: usize = 6144;
+
+const MOST: usize = 18432;
 
 // Whether the last of n rows can be the root: over all rows, an expression, from the first byte to the last.
 fn rooted(source: &[u8], table: &[u16], n: usize) -> bool
@@ -53,7 +60,7 @@ fn rooted(source: &[u8], table: &[u16], n: usize) -> bool
 }
 
 // The rule at each of n rows, from the last one backwards. `marks` links the children of a row, `depths` holds what the rows to come are under, and
-// `keys` the keys of an object.
+// `keys` the keys of an object, in slots of four numbers.
 fn walk(
     source: &[u8],
     table: &[u16],
@@ -85,6 +92,41 @@ fn walk(
     }
 }
 
+// The walk in a room as small as will do, since all of it is cleared.
+fn roomed(source: &[u8], table: &[u16], text: &[u8], n: usize) -> bool
+    requires { ⌜ Ready (now source) (now table) n ⌝ }
+    ensures { λ r. ⌜ Checks (now (source .entry)) (now (table .entry)) (now (text .entry)) r ⌝ }
+{
+    if n <= FEW {
+        let mut marks = [0u16; 512];
+        let mut depths = [0u8; 512];
+        let mut keys = [0u16; 2048];
+        return walk(source, table, text, n, &mut marks, &mut depths, &mut keys);
+    }
+    if n <= SOME {
+        let mut marks = [0u16; 2048];
+        let mut depths = [0u8; 2048];
+        let mut keys = [0u16; 8192];
+        return walk(source, table, text, n, &mut marks, &mut depths, &mut keys);
+    }
+    if n <= MANY {
+        let mut marks = [0u16; 6144];
+        let mut depths = [0u8; 6144];
+        let mut keys = [0u16; 24576];
+        return walk(source, table, text, n, &mut marks, &mut depths, &mut keys);
+    }
+    if n <= MOST {
+        let mut marks = [0u16; 18432];
+        let mut depths = [0u8; 18432];
+        let mut keys = [0u16; 73728];
+        return walk(source, table, text, n, &mut marks, &mut depths, &mut keys);
+    }
+    let mut marks = [0u16; 65535];
+    let mut depths = [0u8; 65535];
+    let mut keys = [0u16; 262140];
+    walk(source, table, text, n, &mut marks, &mut depths, &mut keys)
+}
+
 // Whether a table and a text are the reading of a source.
 pub fn check(source: &[u8], table: &[u16], text: &[u8]) -> bool
     ensures { λ r. ⌜ Checks (now (source .entry)) (now (table .entry)) (now (text .entry)) r ⌝ }
@@ -102,14 +144,5 @@ pub fn check(source: &[u8], table: &[u16], text: &[u8]) -> bool
     if first_bad(source) != source.len() {
         return false;
     }
-    if n <= FEW {
-        let mut marks = [0u16; 512];
-        let mut depths = [0u8; 512];
-        let mut keys = [0u16; 512];
-        return walk(source, table, text, n, &mut marks, &mut depths, &mut keys);
-    }
-    let mut marks = [0u16; 65535];
-    let mut depths = [0u8; 65535];
-    let mut keys = [0u16; 65535];
-    walk(source, table, text, n, &mut marks, &mut depths, &mut keys)
+    roomed(source, table, text, n)
 }

@@ -6,6 +6,7 @@ use crate::lay::lay;
 use crate::precedence::groups;
 use crate::program::fits;
 use crate::rows::wide;
+use crate::single::single;
 use crate::text::string;
 use crate::texts::texts;
 use grammar::kinds::Kind;
@@ -20,7 +21,7 @@ ghost use lib.ListN.{length, getD};
 ghost use Rattle.checker.specs.Rows.{rowAt};
 ghost use Rattle.checker.specs.Family.{Linked};
 ghost use Rattle.checker.specs.Leaf.{isGrown};
-ghost use Rattle.checker.specs.Node.{NoText, Noding, RuleBy, LeftAt, NodeBy};
+ghost use Rattle.checker.specs.Node.{NoText, Heading, Noding, RuleBy, LeftAt, NodeBy};
 
 // What is wanted where an expression stands.
 const EXPRESSION: u8 = 0;
@@ -56,7 +57,7 @@ fn template(
     first: usize,
     own: u8,
 ) -> bool
-    requires { ⌜ Noding (now s) (now table) i (now marks) (now depths) (now depths) own × Linked (now marks) i first × ((rowAt (now table) i) .kind ≡ 7) ⌝ }
+    requires { ⌜ Heading (now s) (now table) i (now marks) (now depths) × Linked (now marks) i first × ((rowAt (now table) i) .kind ≡ 7) ⌝ }
     ensures { λ r. ⌜ RuleBy (now (s .entry)) (now (text .entry)) (now (table .entry)) i (now (marks .entry)) (now (depths .entry)) (now (depths .exit)) first own r ⌝ }
 {
     let start = wide(table[7 * i + 2]);
@@ -93,7 +94,7 @@ fn heredoc(
     first: usize,
     own: u8,
 ) -> bool
-    requires { ⌜ Noding (now s) (now table) i (now marks) (now depths) (now depths) own × Linked (now marks) i first × ((rowAt (now table) i) .kind ≡ 8) ⌝ }
+    requires { ⌜ Heading (now s) (now table) i (now marks) (now depths) × Linked (now marks) i first × ((rowAt (now table) i) .kind ≡ 8) ⌝ }
     ensures { λ r. ⌜ RuleBy (now (s .entry)) (now (text .entry)) (now (table .entry)) i (now (marks .entry)) (now (depths .entry)) (now (depths .exit)) first own r ⌝ }
 {
     let start = wide(table[7 * i + 2]);
@@ -201,6 +202,12 @@ fn headed(
     let kind = table[7 * i];
     let start = wide(table[7 * i + 2]);
     let lines = multi_line(own);
+    if first == i {
+        let x = single(s, table, i, lines);
+        if x.sure {
+            return x.yes;
+        }
+    }
     if !first_at(s, kind, start, lines) {
         return false;
     }

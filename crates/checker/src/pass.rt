@@ -3,13 +3,15 @@ use crate::precedence::groups;
 use crate::program::child;
 use crate::program::fits;
 use crate::rows::wide;
-use lexis::keys::met_before;
+use index::find;
+use index::insert;
+use index::mark::mark;
 ghost use mathlib.Core.Path.{_≡_};
 ghost use mathlib.Core.Bool.{cond};
-ghost use Prim.Native.Nat.{_+_, _*_, _≤_, _<_};
+ghost use Prim.Native.Nat.{_+_, _*_, _≤_};
 ghost use lib.ListN.{length};
 ghost use Rattle.grammar.specs.Moves.{lone};
-ghost use Rattle.checker.specs.Lay.{SuitsAt, MetAt, noPass, Passing, PassedBy};
+ghost use Rattle.checker.specs.Lay.{SuitsAt, Meeting, MetAt, noPass, Passing, PassedBy};
 
 // What is wanted where an item stands.
 const ITEM: u8 = 4;
@@ -47,9 +49,9 @@ fn suits(table: &[u16], j: usize, at: usize, bound: usize, want: u8) -> bool
     fits(want, kind)
 }
 
-// Of an item that starts at p: whether its key is one of the first n of `keys`. Where it stands alone, and so may be compared, it is kept there.
+// Of an item that starts at p: whether its key is one of the n in the slots of `keys`. Where it stands alone, and so may be compared, it is kept there.
 fn meet(s: &[u8], keys: &mut [u16], n: usize, p: u16, want: u8, alone: bool) -> Met
-    requires { ⌜ (n < length (now keys)) × (want ≡ 4 → alone ≡ lone (now s) p) ⌝ }
+    requires { ⌜ Meeting (now s) (now keys) n × (want ≡ 4 → alone ≡ lone (now s) p) ⌝ }
     ensures { λ r. ⌜ MetAt (now (s .entry)) (now (keys .entry)) (now (keys .exit)) n p want r ⌝ }
 {
     if want != ITEM {
@@ -65,10 +67,11 @@ fn meet(s: &[u8], keys: &mut [u16], n: usize, p: u16, want: u8, alone: bool) -> 
         };
     }
     let a = wide(p);
-    if met_before(s, keys, 0, n, a) {
+    let m = mark(s, a);
+    if find(s, keys, 0, n, a, m) {
         return Met { met: true, keys: n };
     }
-    keys[n] = p;
+    insert(s, keys, 0, n, a, m);
     Met {
         met: false,
         keys: n + 1,

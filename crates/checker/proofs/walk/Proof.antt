@@ -23,15 +23,15 @@ abbrev μ-loop : tie.MeasureT-loop
 
 -- src/lib.rt:67:12
 sub-depths : tie.Need-sub-depths Inv-loop μ-loop
-sub-depths c = omega (arith, (c .before .before .before .before .before .before .pre .root .some))
+sub-depths c = omega (arith, (c .before .before .before .before .before .before .pre .ready .root .some))
 
 -- src/lib.rt:67:5
 slice-write-depths : tie.Need-slice-write-depths Inv-loop μ-loop
-slice-write-depths c = omega (arith, (c .before .before .before .before .before .before .pre .root .some), (c .before .before .before .before .before .before .pre .deep))
+slice-write-depths c = omega (arith, (c .before .before .before .before .before .before .pre .ready .root .some), (c .before .before .before .before .before .before .pre .deep))
 
 -- src/lib.rt:70:5
 loop-holds : tie.Need-loop-holds Inv-loop μ-loop
-loop-holds c = (record { short = (c .before .before .before .before .before .before .pre .short); formed = (c .before .before .before .before .before .before .pre .formed); rows = (c .before .before .before .before .before .before .pre .rows); root = (c .before .before .before .before .before .before .pre .root); marked = (c .before .before .before .before .before .before .pre .marked); deep = omega (arith, (c .before .before .before .before .before .before .pre .deep), length-set ((c .before .before .before .before .before .before .args .depths .now)) ((c .before .before .before .before .before .before .args .n) - 1) 128); keyed = (c .before .before .before .before .before .before .pre .keyed) }, refl, refl, refl, walk-start _ _ _ _ ((c .before .before .before .before .before .before .args .depths .now)) 128 ((c .before .before .before .before .before .before .pre .root .some)) ((c .before .before .before .before .before .before .pre .root .count)) ((c .before .before .before .before .before .before .pre .deep)) refl)
+loop-holds c = (record { ready = (c .before .before .before .before .before .before .pre .ready); marked = (c .before .before .before .before .before .before .pre .marked); deep = omega (arith, (c .before .before .before .before .before .before .pre .deep), length-set ((c .before .before .before .before .before .before .args .depths .now)) ((c .before .before .before .before .before .before .args .n) - 1) 128); keyed = (c .before .before .before .before .before .before .pre .keyed) }, refl, refl, refl, walk-start _ _ _ _ ((c .before .before .before .before .before .before .args .depths .now)) 128 ((c .before .before .before .before .before .before .pre .ready .root .some)) ((c .before .before .before .before .before .before .pre .ready .root .count)) ((c .before .before .before .before .before .before .pre .deep)) refl)
 
 -- src/lib.rt:72:13
 same-length : tie.Need-same-length Inv-loop μ-loop
@@ -55,7 +55,7 @@ sub-columns c = search needs
 
 -- src/lib.rt:74:13
 columns-requires : tie.Need-columns-requires Inv-loop μ-loop
-columns-requires c κs = omega (arith, (c .before .loop .inv .0 .rows), (c .before .loop .inv .4 .few), (c .if1 .left))
+columns-requires c κs = omega (arith, (c .before .loop .inv .0 .ready .rows), (c .before .loop .inv .4 .few), (c .if1 .left))
 
 -- src/lib.rt:76:13
 same-length-4 : tie.Need-same-length-4 Inv-loop μ-loop
@@ -71,7 +71,7 @@ same-length-6 c = (c .before .before .before .before .loop .inv .3)
 
 -- src/lib.rt:76:13
 returns-2 : tie.Need-returns-2 Inv-loop μ-loop
-returns-2 c = checks-no (columns-no _ _ _ _ ((c .before .before .before .before .loop .inv .4)) (omega (arith, (c .before .before .before .if1 .left))) ((c .before .before .before .before .loop .inv .0 .rows)) (not-true _ ((c .if2 .taken))) ((c .before .before .columns .ensures)))
+returns-2 c = checks-no (columns-no _ _ _ _ ((c .before .before .before .before .loop .inv .4)) (omega (arith, (c .before .before .before .if1 .left))) ((c .before .before .before .before .loop .inv .0 .ready .rows)) (not-true _ ((c .if2 .taken))) ((c .before .before .columns .ensures)))
 
 -- src/lib.rt:78:39
 sub-node : tie.Need-sub-node Inv-loop μ-loop
@@ -79,7 +79,7 @@ sub-node c = search needs
 
 -- src/lib.rt:78:13
 node-requires : tie.Need-node-requires Inv-loop μ-loop
-node-requires c κs = record { short = (c .before .before .before .before .before .before .before .loop .inv .0 .short); within = omega (arith, (c .before .before .before .before .before .before .before .loop .inv .0 .rows), (c .before .before .before .before .before .before .before .loop .inv .4 .few), (c .before .before .before .before .before .before .if1 .left)); small = omega (arith, (c .before .before .before .before .before .before .before .loop .inv .0 .root .small), (c .before .before .before .before .before .before .before .loop .inv .4 .few)); marked = omega (arith, (c .before .before .before .before .before .before .before .loop .inv .0 .marked), (c .before .before .before .before .before .before .before .loop .inv .1), (c .before .before .before .before .before .before .before .loop .inv .4 .few), (c .before .before .before .before .before .before .if1 .left)); deep = omega (arith, (c .before .before .before .before .before .before .before .loop .inv .0 .deep), (c .before .before .before .before .before .before .before .loop .inv .2), (c .before .before .before .before .before .before .before .loop .inv .4 .few), (c .before .before .before .before .before .before .if1 .left)); keyed = omega (arith, (c .before .before .before .before .before .before .before .loop .inv .0 .keyed), (c .before .before .before .before .before .before .before .loop .inv .3), (c .before .before .before .before .before .before .before .loop .inv .4 .few), (c .before .before .before .before .before .before .if1 .left)) }
+node-requires c κs = record { short = (c .before .before .before .before .before .before .before .loop .inv .0 .ready .short); within = omega (arith, (c .before .before .before .before .before .before .before .loop .inv .0 .ready .rows), (c .before .before .before .before .before .before .before .loop .inv .4 .few), (c .before .before .before .before .before .before .if1 .left)); small = omega (arith, (c .before .before .before .before .before .before .before .loop .inv .0 .ready .root .small), (c .before .before .before .before .before .before .before .loop .inv .4 .few)); marked = omega (arith, (c .before .before .before .before .before .before .before .loop .inv .0 .marked), (c .before .before .before .before .before .before .before .loop .inv .1), (c .before .before .before .before .before .before .before .loop .inv .4 .few), (c .before .before .before .before .before .before .if1 .left)); deep = omega (arith, (c .before .before .before .before .before .before .before .loop .inv .0 .deep), (c .before .before .before .before .before .before .before .loop .inv .2), (c .before .before .before .before .before .before .before .loop .inv .4 .few), (c .before .before .before .before .before .before .if1 .left)); keyed = omega (arith, (c .before .before .before .before .before .before .before .loop .inv .0 .keyed), (c .before .before .before .before .before .before .before .loop .inv .3), (c .before .before .before .before .before .before .before .loop .inv .4 .few), (c .before .before .before .before .before .before .if1 .left)) }
 
 -- src/lib.rt:79:13
 same-length-7 : tie.Need-same-length-7 Inv-loop μ-loop
@@ -95,7 +95,7 @@ same-length-9 c = (c .before .before .before .before .before .before .before .no
 
 -- src/lib.rt:79:13
 returns-3 : tie.Need-returns-3 Inv-loop μ-loop
-returns-3 c = checks-no (row-no _ _ _ _ ((c .before .before .before .before .before .before .before .before .before .before .before .before .before .before .before .loop .inv .4)) (omega (arith, (c .before .before .before .before .before .before .before .before .before .before .before .before .before .before .if1 .left))) ((c .before .before .before .before .before .before .before .before .before .before .before .before .before .before .before .loop .inv .0 .rows)) (not-true _ ((c .if3 .taken))) ((c .before .before .before .before .before .before .before .node .ensures)))
+returns-3 c = checks-no (row-no _ _ _ _ ((c .before .before .before .before .before .before .before .before .before .before .before .before .before .before .before .loop .inv .4)) (omega (arith, (c .before .before .before .before .before .before .before .before .before .before .before .before .before .before .if1 .left))) ((c .before .before .before .before .before .before .before .before .before .before .before .before .before .before .before .loop .inv .0 .ready .rows)) (not-true _ ((c .if3 .taken))) ((c .before .before .before .before .before .before .before .node .ensures)))
 
 -- src/lib.rt:82:13
 sub-i : tie.Need-sub-i Inv-loop μ-loop
@@ -107,7 +107,7 @@ loop-less c = search needs
 
 -- src/lib.rt:70:5
 loop-again : tie.Need-loop-again Inv-loop μ-loop
-loop-again c = ((c .before .before .before .before .before .before .before .before .before .before .before .before .before .before .before .loop .inv .0), (c .before .before .before .before .before .before .before .node .kept .1 .1 .1 .1 .0) ∙ (c .before .before .before .before .before .before .before .before .before .before .before .before .before .before .before .loop .inv .1), (c .before .before .before .before .before .before .before .node .kept .1 .1 .1 .1 .1 .0) ∙ (c .before .before .before .before .before .before .before .before .before .before .before .before .before .before .before .loop .inv .2), (c .before .before .before .before .before .before .before .node .kept .1 .1 .1 .1 .1 .1 .0) ∙ (c .before .before .before .before .before .before .before .before .before .before .before .before .before .before .before .loop .inv .3), row-on _ _ _ _ ((c .before .before .before .before .before .before .before .before .before .before .before .before .before .before .before .loop .inv .4)) (omega (arith, (c .before .before .before .before .before .before .before .before .before .before .before .before .before .before .if1 .left))) ((c .before .before .before .before .before .before .before .before .before .before .before .before .before .before .before .loop .inv .0 .rows)) (not-false _ ((c .if3 .left))) ((c .before .before .before .before .before .before .before .node .ensures)) (not-false _ ((c .before .before .before .before .before .before .before .before .before .before .before .if2 .left))) ((c .before .before .before .before .before .before .before .before .before .before .before .before .before .columns .ensures)))
+loop-again c = ((c .before .before .before .before .before .before .before .before .before .before .before .before .before .before .before .loop .inv .0), (c .before .before .before .before .before .before .before .node .kept .1 .1 .1 .1 .0) ∙ (c .before .before .before .before .before .before .before .before .before .before .before .before .before .before .before .loop .inv .1), (c .before .before .before .before .before .before .before .node .kept .1 .1 .1 .1 .1 .0) ∙ (c .before .before .before .before .before .before .before .before .before .before .before .before .before .before .before .loop .inv .2), (c .before .before .before .before .before .before .before .node .kept .1 .1 .1 .1 .1 .1 .0) ∙ (c .before .before .before .before .before .before .before .before .before .before .before .before .before .before .before .loop .inv .3), row-on _ _ _ _ ((c .before .before .before .before .before .before .before .before .before .before .before .before .before .before .before .loop .inv .4)) (omega (arith, (c .before .before .before .before .before .before .before .before .before .before .before .before .before .before .if1 .left))) ((c .before .before .before .before .before .before .before .before .before .before .before .before .before .before .before .loop .inv .0 .ready .rows)) (not-false _ ((c .if3 .left))) ((c .before .before .before .before .before .before .before .node .ensures)) (not-false _ ((c .before .before .before .before .before .before .before .before .before .before .before .if2 .left))) ((c .before .before .before .before .before .before .before .before .before .before .before .before .before .columns .ensures)))
 
 pub walk-spec : {M : Type 1} → statement M
 walk-spec =

@@ -79,7 +79,7 @@ levels-requires c κs = search needs
 
 -- src/node.rt:156:5
 lay-requires : tie.Need-lay-requires
-lay-requires c κs = let z = (chain-le _ _ ((c .before .before .before .before .before .before .before .before .before .before .before .before .before .before .before .before .before .pre .1 .js)) _ ((c .before .before .before .before .before .before .before .before .before .before .before .before .before .before .before .before .before .pre .1 .chain))) in let y = next-of _ _ ((c .before .before .before .before .before .before .before .before .before .before .before .before .before .before .before .before .before .pre .1 .js)) _ ((c .before .before .before .before .before .before .before .before .before .before .before .before .before .before .before .before .before .pre .1 .chain)) (omega (arith, z, (c .before .before .before .before .before .before .before .before .before .before .if1 .left))) in record { within = (c .before .before .before .before .before .before .before .before .before .before .before .before .before .before .before .before .before .pre .0 .within); marked = (c .before .before .before .before .before .before .before .before .before .before .before .before .before .before .before .before .before .pre .0 .marked); deep = omega (arith, length-set ((c .before .before .before .before .before .before .before .before .before .before .before .before .before .before .before .before .before .args .depths .now)) ((c .before .before .before .before .before .before .before .before .before .before .before .before .before .before .before .before .before .args .first)) ((c .before .before .before .before .before .before .before .before .before .before .before .before .before .before .before .before .before .args .own)), (c .before .before .before .before .before .before .before .before .before .before .before .before .before .before .before .before .before .pre .0 .deep)); keyed = (c .before .before .before .before .before .before .before .before .before .before .before .before .before .before .before .before .before .pre .0 .keyed); few = (c .levels .ensures .1); js = y .rest; chain = subst (Chain _ _ (y .rest)) (sym ((c .before .before .before .wide .ensures .0))) (y .chain); known = left-known ((c .before .before .before .before .before .before .before .before .before .before .before .before .before .before .before .before .before .args .s .now)) ((c .before .before .before .before .before .before .before .before .before .before .before .before .before .before .before .before .before .args .table .now)) ((c .before .before .before .before .before .before .before .before .before .before .before .before .before .before .before .before .before .args .i)) ((c .before .before .before .before .before .before .before .before .before .before .before .before .before .before .before .before .before .args .own)) [] [] [] ((c .before .before .before .before .before .before .before .before .before .before .before .before .before .before .before .before .before .args .first)) ((c .before .before .before .before .before .before .before .before .before .before .before .before .before .before .before .before .before .pre .2)) ((c .before .before .before .before .before .before .before .before .before .before .if1 .left)) z (not-false _ ((c .before .before .before .before .before .before .before .if2 .left))) (left-as ((c .before .before .before .before .before .before .before .before .before .multi-line .ensures)) ((c .before .before .before .before .before .before .before .before .left-at .ensures))) }
+lay-requires c κs = let z = (chain-le _ _ ((c .before .before .before .before .before .before .before .before .before .before .before .before .before .before .before .before .before .pre .1 .js)) _ ((c .before .before .before .before .before .before .before .before .before .before .before .before .before .before .before .before .before .pre .1 .chain))) in let y = next-of _ _ ((c .before .before .before .before .before .before .before .before .before .before .before .before .before .before .before .before .before .pre .1 .js)) _ ((c .before .before .before .before .before .before .before .before .before .before .before .before .before .before .before .before .before .pre .1 .chain)) (omega (arith, z, (c .before .before .before .before .before .before .before .before .before .before .if1 .left))) in record { within = (c .before .before .before .before .before .before .before .before .before .before .before .before .before .before .before .before .before .pre .0 .within); marked = (c .before .before .before .before .before .before .before .before .before .before .before .before .before .before .before .before .before .pre .0 .marked); deep = omega (arith, length-set ((c .before .before .before .before .before .before .before .before .before .before .before .before .before .before .before .before .before .args .depths .now)) ((c .before .before .before .before .before .before .before .before .before .before .before .before .before .before .before .before .before .args .first)) ((c .before .before .before .before .before .before .before .before .before .before .before .before .before .before .before .before .before .args .own)), (c .before .before .before .before .before .before .before .before .before .before .before .before .before .before .before .before .before .pre .0 .deep)); keyed = (c .before .before .before .before .before .before .before .before .before .before .before .before .before .before .before .before .before .pre .0 .keyed); small = (c .before .before .before .before .before .before .before .before .before .before .before .before .before .before .before .before .before .pre .0 .small); few = (c .levels .ensures .1); js = y .rest; chain = subst (Chain _ _ (y .rest)) (sym ((c .before .before .before .wide .ensures .0))) (y .chain); known = left-known ((c .before .before .before .before .before .before .before .before .before .before .before .before .before .before .before .before .before .args .s .now)) ((c .before .before .before .before .before .before .before .before .before .before .before .before .before .before .before .before .before .args .table .now)) ((c .before .before .before .before .before .before .before .before .before .before .before .before .before .before .before .before .before .args .i)) ((c .before .before .before .before .before .before .before .before .before .before .before .before .before .before .before .before .before .args .own)) [] [] [] ((c .before .before .before .before .before .before .before .before .before .before .before .before .before .before .before .before .before .args .first)) ((c .before .before .before .before .before .before .before .before .before .before .before .before .before .before .before .before .before .pre .2)) ((c .before .before .before .before .before .before .before .before .before .before .if1 .left)) z (not-false _ ((c .before .before .before .before .before .before .before .if2 .left))) (left-as ((c .before .before .before .before .before .before .before .before .before .multi-line .ensures)) ((c .before .before .before .before .before .before .before .before .left-at .ensures))) }
 
 -- src/node.rt:134:1
 same-length : tie.Need-same-length

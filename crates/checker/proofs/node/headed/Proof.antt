@@ -1,13 +1,9 @@
-use Prim.Native.Nat.{_-_, _+_, _*_, _<_, _≤_}
 use mathlib.Core.Path.{_≡_, refl, sym, ap, subst, _∙_}
 use borrow.Author.Tests.{not-true, not-false}
-use Rattle.checker.proofs.Nodes.{left-no, left-by, is-t, not-t, first-as, left-as, laid-as, text-as, opened-as, node-piece, node-lost, node-by, family-linked}
-use Rattle.checker.proofs.Heads.{head-no, head-known, head-by}
-use Rattle.checker.proofs.Growns.{grown-none, grown-left-no, left-known, grown-by}
-use Rattle.checker.proofs.TextHeads.{template-first-no, template-flag-no, template-mode, template-by, heredoc-first-no, heredoc-no, heredoc-flag-no, heredoc-mode, heredoc-by, string-kids, string-by}
-use Rattle.checker.proofs.Lays.{chain-le, next-of}
 use mathlib.Core.List.{[]}
-use Rattle.checker.specs.Leaf.{FirstAt}
+use Rattle.checker.proofs.Nodes.{first-as, laid-as}
+use Rattle.checker.proofs.Heads.{head-no, head-known, head-by}
+use Rattle.checker.proofs.Singles.{single-as}
 use borrow.Author.Needs.{needs}
 use Rattle.checker.proofs.node.headed.Statement.{statement}
 use Rattle.checker.proofs.node.headed.Tie as tie
@@ -18,70 +14,79 @@ use Rattle.checker.proofs.lay.lay.Reads as lay-reads
 use Rattle.checker.proofs.node.levels.Reads as levels-reads
 use Rattle.checker.proofs.node.multi_line.Reads as multi-line-reads
 use Rattle.checker.proofs.rows.wide.Reads as wide-reads
+use Rattle.checker.proofs.single.single.Reads as single-reads
 
--- src/node.rt:185:22
+-- src/node.rt:202:22
 mul-kind : tie.Need-mul-kind
 mul-kind c = search needs
 
--- src/node.rt:185:16
+-- src/node.rt:202:16
 mul-kind-2 : tie.Need-mul-kind-2
 mul-kind-2 c = search needs
 
--- src/node.rt:185:16
+-- src/node.rt:202:16
 shared-slice-read-kind : tie.Need-shared-slice-read-kind
 shared-slice-read-kind c = search needs
 
--- src/node.rt:186:28
+-- src/node.rt:203:28
 mul-wide : tie.Need-mul-wide
 mul-wide c = search needs
 
--- src/node.rt:186:28
+-- src/node.rt:203:28
 add-wide : tie.Need-add-wide
 add-wide c = search needs
 
--- src/node.rt:186:22
+-- src/node.rt:203:22
 mul-wide-2 : tie.Need-mul-wide-2
 mul-wide-2 c = search needs
 
--- src/node.rt:186:22
+-- src/node.rt:203:22
 shared-slice-read-wide : tie.Need-shared-slice-read-wide
 shared-slice-read-wide c = search needs
 
--- src/node.rt:186:9
+-- src/node.rt:203:9
 wide-requires : tie.Need-wide-requires
 wide-requires c κs = search needs
 
--- src/node.rt:187:9
+-- src/node.rt:204:9
 multi-line-requires : tie.Need-multi-line-requires
 multi-line-requires c κs = search needs
 
--- src/node.rt:188:9
+-- src/node.rt:206:13
+single-requires : tie.Need-single-requires
+single-requires c κs = search needs
+
+-- src/node.rt:208:13
+returns : tie.Need-returns
+returns c = single-as (c .before .before .if1 .taken) ((c .before .single .ensures .rule) (c .if2 .taken) _ (c .before .before .before .multi-line .ensures) _ _ _)
+
+-- src/node.rt:211:9
 first-at-requires : tie.Need-first-at-requires
 first-at-requires c κs = search needs
 
--- src/node.rt:189:9
-returns : tie.Need-returns
-returns c = head-no _ _ _ _ _ _ _ _ ((c .before .before .before .before .before .before .before .before .before .before .before .before .pre .2)) (not-true _ ((c .if1 .taken))) (first-as ((c .before .before .before .wide .ensures .0)) ((c .before .before .multi-line .ensures)) ((c .before .first-at .ensures)))
+-- src/node.rt:212:9
+returns-2 : tie.Need-returns-2
+returns-2 c = head-no _ _ _ _ _ _ _ _ (c .before .before .before .before .before .before .before .before .before .before .before .before .before .pre .2) (not-true _ (c .if3 .taken)) (first-as (c .before .before .before .before .wide .ensures .0) (c .before .before .before .multi-line .ensures) (c .before .first-at .ensures))
 
--- src/node.rt:200:9
+-- src/node.rt:223:9
 levels-requires : tie.Need-levels-requires
 levels-requires c κs = search needs
 
--- src/node.rt:191:5
+-- src/node.rt:214:5
 lay-requires : tie.Need-lay-requires
-lay-requires c κs = record { within = (c .before .before .before .before .before .before .before .before .before .before .before .before .before .before .before .pre .0 .within); marked = (c .before .before .before .before .before .before .before .before .before .before .before .before .before .before .before .pre .0 .marked); deep = (c .before .before .before .before .before .before .before .before .before .before .before .before .before .before .before .pre .0 .deep); keyed = (c .before .before .before .before .before .before .before .before .before .before .before .before .before .before .before .pre .0 .keyed); few = (c .levels .ensures .1); js = (c .before .before .before .before .before .before .before .before .before .before .before .before .before .before .before .pre .1 .js); chain = (c .before .before .before .before .before .before .before .before .before .before .before .before .before .before .before .pre .1 .chain); known = head-known ((c .before .before .before .before .before .before .before .before .before .before .before .before .before .before .before .args .s .now)) ((c .before .before .before .before .before .before .before .before .before .before .before .before .before .before .before .args .table .now)) ((c .before .before .before .before .before .before .before .before .before .before .before .before .before .before .before .args .i)) ((c .before .before .before .before .before .before .before .before .before .before .before .before .before .before .before .args .own)) [] [] [] 0 ((c .before .before .before .before .before .before .before .before .before .before .before .before .before .before .before .pre .2)) ((c .before .before .before .before .before .before .before .before .before .before .before .before .before .before .before .pre .3)) (not-false _ ((c .before .before .before .if1 .left))) (first-as ((c .before .before .before .before .before .before .wide .ensures .0)) ((c .before .before .before .before .before .multi-line .ensures)) ((c .before .before .before .before .first-at .ensures))) }
+lay-requires c κs = record { within = (c .before .before .before .before .before .before .before .before .before .before .before .before .before .before .before .before .pre .0 .within); marked = (c .before .before .before .before .before .before .before .before .before .before .before .before .before .before .before .before .pre .0 .marked); deep = (c .before .before .before .before .before .before .before .before .before .before .before .before .before .before .before .before .pre .0 .deep); keyed = (c .before .before .before .before .before .before .before .before .before .before .before .before .before .before .before .before .pre .0 .keyed); small = (c .before .before .before .before .before .before .before .before .before .before .before .before .before .before .before .before .pre .0 .small); few = (c .levels .ensures .1); js = (c .before .before .before .before .before .before .before .before .before .before .before .before .before .before .before .before .pre .1 .js); chain = (c .before .before .before .before .before .before .before .before .before .before .before .before .before .before .before .before .pre .1 .chain); known = head-known (c .before .before .before .before .before .before .before .before .before .before .before .before .before .before .before .before .args .s .now) (c .before .before .before .before .before .before .before .before .before .before .before .before .before .before .before .before .args .table .now) (c .before .before .before .before .before .before .before .before .before .before .before .before .before .before .before .before .args .i) (c .before .before .before .before .before .before .before .before .before .before .before .before .before .before .before .before .args .own) [] [] [] 0 (c .before .before .before .before .before .before .before .before .before .before .before .before .before .before .before .before .pre .2) (c .before .before .before .before .before .before .before .before .before .before .before .before .before .before .before .before .pre .3) (not-false _ (c .before .before .before .if3 .left)) (first-as (c .before .before .before .before .before .before .before .wide .ensures .0) (c .before .before .before .before .before .before .multi-line .ensures) (c .before .before .before .before .first-at .ensures)) }
 
--- src/node.rt:171:1
+-- src/node.rt:188:1
 same-length : tie.Need-same-length
 same-length c = search needs
 
--- src/node.rt:171:1
+-- src/node.rt:188:1
 same-length-2 : tie.Need-same-length-2
 same-length-2 c = search needs
 
--- src/node.rt:171:1
-returns-2 : tie.Need-returns-2
-returns-2 c = head-by _ _ _ _ _ _ _ _ ((c .before .before .before .before .before .before .before .before .before .before .before .before .before .before .before .before .before .before .before .before .pre .2)) ((c .before .before .before .before .before .before .before .before .before .before .before .before .before .before .before .before .before .before .before .before .pre .3)) (not-false _ ((c .before .before .before .before .before .before .before .before .if1 .left))) (first-as ((c .before .before .before .before .before .before .before .before .before .before .before .wide .ensures .0)) ((c .before .before .before .before .before .before .before .before .before .before .multi-line .ensures)) ((c .before .before .before .before .before .before .before .before .before .first-at .ensures))) (laid-as ((c .before .before .before .before .before .before .before .before .before .before .before .wide .ensures .0)) ((c .before .before .before .before .before .levels .ensures .0)) ((c .before .before .before .before .before .before .before .before .before .before .multi-line .ensures)) ((c .before .before .before .before .lay .ensures)))
+-- src/node.rt:188:1
+returns-3 : tie.Need-returns-3
+returns-3 c = head-by _ _ _ _ _ _ _ _ (c .before .before .before .before .before .before .before .before .before .before .before .before .before .before .before .before .before .before .before .before .before .pre .2) (c .before .before .before .before .before .before .before .before .before .before .before .before .before .before .before .before .before .before .before .before .before .pre .3) (not-false _ (c .before .before .before .before .before .before .before .before .if3 .left)) (first-as (c .before .before .before .before .before .before .before .before .before .before .before .before .wide .ensures .0) (c .before .before .before .before .before .before .before .before .before .before .before .multi-line .ensures) (c .before .before .before .before .before .before .before .before .before .first-at .ensures)) (laid-as (c .before .before .before .before .before .before .before .before .before .before .before .before .wide .ensures .0) (c .before .before .before .before .before .levels .ensures .0) (c .before .before .before .before .before .before .before .before .before .before .before .multi-line .ensures) (c .before .before .before .before .lay .ensures))
 
 pub headed-spec : {M : Type 1} → statement M
 headed-spec =
@@ -96,10 +101,12 @@ headed-spec =
     shared-slice-read-wide
     wide-requires
     multi-line-requires
-    first-at-requires
+    single-requires
     returns
+    first-at-requires
+    returns-2
     levels-requires
     lay-requires
     same-length
     same-length-2
-    returns-2)
+    returns-3)

@@ -44,7 +44,7 @@ returns-2 c = string-by _ _ _ _ _ _ _ _ ((c .before .before .if1 .taken)) ((c .b
 
 -- src/node.rt:228:9
 template-requires : tie.Need-template-requires
-template-requires c κs = search needs
+template-requires c κs = (record { short = (c .before .before .before .before .before .before .before .before .before .before .pre .0 .short); within = (c .before .before .before .before .before .before .before .before .before .before .pre .0 .within); small = (c .before .before .before .before .before .before .before .before .before .before .pre .0 .small); marked = (c .before .before .before .before .before .before .before .before .before .before .pre .0 .marked); deep = (c .before .before .before .before .before .before .before .before .before .before .pre .0 .deep) }, (c .before .before .before .before .before .before .before .before .before .before .pre .1), (c .before .if3 .taken))
 
 -- src/node.rt:228:9
 same-length : tie.Need-same-length
@@ -56,7 +56,7 @@ returns-3 c = search needs
 
 -- src/node.rt:231:9
 heredoc-requires : tie.Need-heredoc-requires
-heredoc-requires c κs = search needs
+heredoc-requires c κs = (record { short = (c .before .before .before .before .before .before .before .before .before .before .before .pre .0 .short); within = (c .before .before .before .before .before .before .before .before .before .before .before .pre .0 .within); small = (c .before .before .before .before .before .before .before .before .before .before .before .pre .0 .small); marked = (c .before .before .before .before .before .before .before .before .before .before .before .pre .0 .marked); deep = (c .before .before .before .before .before .before .before .before .before .before .before .pre .0 .deep) }, (c .before .before .before .before .before .before .before .before .before .before .before .pre .1), (c .before .if4 .taken))
 
 -- src/node.rt:231:9
 same-length-2 : tie.Need-same-length-2

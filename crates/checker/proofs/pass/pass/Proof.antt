@@ -57,7 +57,7 @@ shared-slice-read-meet c = search needs
 
 -- src/pass.rt:126:9
 meet-requires : tie.Need-meet-requires
-meet-requires c κs = (omega (arith, c .before .before .before .before .before .before .before .before .before .before .before .pre .keyed), meet-told (c .before .before .before .before .before .before .before .before .before .before .before .args .s .now) (c .before .before .before .before .before .before .before .before .before .before .before .pre .told) (c .before .before .before .before .child .ensures) (c .before .before .before .suits .ensures) (not-false _ (c .before .before .if2 .left)))
+meet-requires c κs = (record { indexed = c .before .before .before .before .before .before .before .before .before .before .before .pre .indexed; room = omega (arith, c .before .before .before .before .before .before .before .before .before .before .before .pre .keyed, c .before .before .before .before .before .before .before .before .before .before .before .pre .fewer, c .before .before .before .before .before .before .before .before .before .before .before .pre .linked .1); few = omega (arith, c .before .before .before .before .before .before .before .before .before .before .before .pre .small, c .before .before .before .before .before .before .before .before .before .before .before .pre .fewer, c .before .before .before .before .before .before .before .before .before .before .before .pre .linked .1) }, meet-told (c .before .before .before .before .before .before .before .before .before .before .before .args .s .now) (c .before .before .before .before .before .before .before .before .before .before .before .pre .told) (c .before .before .before .before .child .ensures) (c .before .before .before .suits .ensures) (not-false _ (c .before .before .if2 .left)))
 
 -- src/pass.rt:128:9
 missed-requires-3 : tie.Need-missed-requires-3
