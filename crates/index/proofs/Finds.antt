@@ -2,9 +2,11 @@
 use Prim.Native.Nat.{ℕ, zero, suc, _+_, _-_, _*_, _/_, _%_, _≤_, _<_}
 use mathlib.Core.Path.{_≡_, refl, sym, ap, _∙_}
 use mathlib.Core.List.{List}
-use mathlib.Core.Bool.{Bool, true, false, _||_}
+use mathlib.Core.Bool.{Bool, true, false, cond, not, _||_}
 use native.Mathlib.Omega.{arith}
 use lib.ListN.{getD}
+use lib.Dec.{eqb, ltb}
+use borrow.Author.Tests.{eqb-true, eqb-false, ltb-true, ltb-false, not-true, not-false}
 use Rattle.lexis.specs.Keys.{among, sameKey}
 use Rattle.lexis.specs.RunLaws.{clash}
 use Rattle.index.specs.Mark.{markAt}
@@ -99,5 +101,32 @@ module _ {s y : List ℕ} {first k : ℕ} (g : Indexed s y first k) where
 pub child-read : (y : List ℕ) (j h w r : ℕ) → w ≡ h % 2 → r ≡ getD y (4 * j + 2 + w) 0 → r ≡ childIn y j h
 child-read y j h w r e f = f ∙ ap (λ (x : ℕ). getD y (4 * j + 2 + x) 0) e
 
-pub start-read : (s y : List ℕ) (j p a : ℕ) {r : Bool} → a ≡ startIn y j → r ≡ sameKey s a p → r ≡ sameKey s (startIn y j) p
-start-read s y j p a e f = f ∙ ap (λ (x : ℕ). sameKey s x p) e
+-- the search under way: where there are more slots, each equal key is ahead; where there are none, no key is equal
+pub record Searching (s y : List ℕ) (first k p h j : ℕ) (more : Bool) : Type 0 where
+  pub ahead : more ≡ true → Seeking s y first k p h j
+  pub over : more ≡ false → false ≡ among s (starts y first k) p
+
+module _ {s y : List ℕ} {first k : ℕ} (g : Indexed s y first k) where
+  pub search-start : (p : ℕ) {m : ℕ} → m ≡ markAt s p → Searching s y first k p m first (ltb first k)
+  search-start p e = record { ahead = λ z. seek-start g p (ltb-true first k z) e; over = λ z. seek-none g p (ltb-false first k z) }
+
+  module _ {p h j : ℕ} (w : Seeking s y first k p h j) (e : sameKey s (startIn y j) p ≡ false) {c : ℕ} (d : c ≡ childIn y j h) where
+    pub search-next : Searching s y first k p (h / 2) c (not (eqb c 0))
+    search-next = record {
+      ahead = λ z. seek-more g w e d (eqb-false c 0 (not-true (eqb c 0) z));
+      over = λ z. seek-end g w e (sym d ∙ eqb-true c 0 (not-false (eqb c 0) z));
+    }
+
+    pub search-less : {more : Bool} → more ≡ true → cond (not (eqb c 0)) (k - c) 0 < cond more (k - j) 0
+    search-less m = rw m (go (eqb c 0) refl)
+      where
+        go : (x : Bool) → eqb c 0 ≡ x → cond (not x) (k - c) 0 < k - j
+        go true z = omega (arith, w .high)
+        go false z = let b = seek-less g w e d (eqb-false c 0 z) in omega (arith, b .0, b .1)
+
+  pub other-mark : {p h j m : ℕ} {same : Bool} → Seeking s y first k p h j → m ≡ markAt s p → same ≡ eqb (markIn y j) m → same ≡ false → sameKey s (startIn y j) p ≡ false
+  other-mark {j = j} {m} w e f z = sym (asks-other (seek-asks g w e) (eqb-false (markIn y j) m (sym f ∙ z)))
+
+-- the start that the code has read
+pub of-start : (s : List ℕ) (p : ℕ) {a b : ℕ} {r : Bool} → a ≡ b → sameKey s a p ≡ r → sameKey s b p ≡ r
+of-start s p e f = ap (λ (x : ℕ). sameKey s x p) (sym e) ∙ f

@@ -1,11 +1,15 @@
 // The earlier keys of an object: a trie over the bits of their marks, in lent numbers.
+use lexis::bytes::byte_at;
+use lexis::bytes::is_rest;
+use lexis::bytes::is_start;
 use lexis::keys::same_key;
 ghost use mathlib.Core.Path.{_≡_};
 ghost use Prim.Native.Nat.{_+_, _*_, _≤_};
 ghost use lib.ListN.{length};
-ghost use Rattle.lexis.specs.Keys.{among, sameKey};
+ghost use lib.Dec.{eqb};
+ghost use Rattle.lexis.specs.Keys.{among};
 ghost use Rattle.index.specs.Mark.{markAt};
-ghost use Rattle.index.specs.Index.{startIn, childIn, starts, Asks, Indexed, Fits, Inserted};
+ghost use Rattle.index.specs.Index.{startIn, markIn, childIn, starts, Indexed, Fits, Inserted};
 
 pub mod mark;
 
@@ -23,39 +27,73 @@ fn child(keys: &[u16], j: usize, h: u16) -> usize
     wide(keys[4 * j + 2 + wide(h % 2)])
 }
 
-// Whether the key of the slot j is equal to the key at p, whose mark is m. Only keys of one mark are compared.
-fn holds(s: &[u8], keys: &[u16], j: usize, m: u16, p: usize) -> bool
-    requires { ⌜ Asks (now s) (now keys) j m p ⌝ }
-    ensures { λ r. ⌜ r ≡ sameKey (now (s .entry)) (startIn (now (keys .entry)) j) p ⌝ }
+// Where the key of the slot j starts.
+fn start(keys: &[u16], j: usize) -> usize
+    requires { ⌜ 4 * j + 4 ≤ length (now keys) ⌝ }
+    ensures { λ r. ⌜ r ≡ startIn (now (keys .entry)) j ⌝ }
 {
-    let at = 4 * j;
-    if keys[at + 1] != m {
-        return false;
-    }
-    same_key(s, wide(keys[at]), p)
+    wide(keys[4 * j])
 }
 
-// Whether the key at p, whose mark is m, is equal to one of the slots from the first-th to before the k-th. Only the slots on the path of its mark are asked.
+// Whether the mark of the slot j is m.
+fn has_mark(keys: &[u16], j: usize, m: u16) -> bool
+    requires { ⌜ 4 * j + 4 ≤ length (now keys) ⌝ }
+    ensures { λ r. ⌜ r ≡ eqb (markIn (now (keys .entry)) j) m ⌝ }
+{
+    keys[4 * j + 1] == m
+}
+
+// Whether the key at p, whose mark is m, is equal to one of the slots from the first-th to before the k-th. Only the slots on the path of its mark are asked, and
+// of these only those of its mark are compared. Both loops are left at the first equal key.
 pub fn find(s: &[u8], keys: &[u16], first: usize, k: usize, p: usize, m: u16) -> bool
     requires { ⌜ Indexed (now s) (now keys) first k × (m ≡ markAt (now s) p) ⌝ }
     ensures { λ r. ⌜ r ≡ among (now (s .entry)) (starts (now (keys .entry)) first k) p ⌝ }
 {
-    if k <= first {
-        return false;
-    }
+    let b = byte_at(s, p);
     let mut h = m;
     let mut j = first;
-    loop {
-        if holds(s, keys, j, m, p) {
-            return true;
-        }
-        let c = child(keys, j, h);
-        if c == 0 {
+    let mut more = first < k;
+    'slots: loop {
+        if !more {
             return false;
         }
+        let a = start(keys, j);
+        let same = has_mark(keys, j, m);
+        let c = child(keys, j, h);
         j = c;
         h = h / 2;
+        more = c != 0;
+        if !same {
+            continue 'slots;
+        }
+        if byte_at(s, a) != b {
+            continue 'slots;
+        }
+        if !is_start(b) {
+            if same_key(s, a, p) {
+                break 'slots;
+            }
+            continue 'slots;
+        }
+        let mut x = a + 1;
+        let mut y = p + 1;
+        loop {
+            let v = byte_at(s, x);
+            let w = byte_at(s, y);
+            if !is_rest(v) {
+                if is_rest(w) {
+                    continue 'slots;
+                }
+                break 'slots;
+            }
+            if v != w {
+                continue 'slots;
+            }
+            x += 1;
+            y += 1;
+        }
     }
+    true
 }
 
 // The key at p, whose mark is m, goes into the k-th slot, which is linked where the path of its mark ends.
