@@ -20,5 +20,6 @@ mod Entries
 mod Keepings
 mod Nameds
 mod ObjectTurns
+mod Copies
 mod Wholly
 mod Nodes

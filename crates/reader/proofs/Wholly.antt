@@ -1,10 +1,10 @@
 -- The answers of `whole` and of `read`.
 use Prim.Native.Nat.{ℕ, _+_, _-_, _*_, _/_, _≤_, _<_}
-use mathlib.Core.Path.{_≡_, refl, sym, ap, subst₂, _∙_}
+use mathlib.Core.Path.{_≡_, refl, sym, ap, _∙_}
 use mathlib.Core.Bool.{Bool, true, false}
 use mathlib.Core.List.{List, [], _∷_, _++_}
 use native.Mathlib.Omega.{arith}
-use lib.ListN.{length}
+use lib.ListN.{length, take, drop}
 use lib.Dec.{eqb, ltb}
 use borrow.Author.Tests.{eq-eqb, ne-eqb, lt-ltb, le-ltb}
 use Rattle.reader.specs.declared.Step.{Step}
@@ -21,15 +21,18 @@ use Rattle.grammar.specs.declared.moves.Went.{Went}
 use Rattle.grammar.specs.Kinds.{Long, Utf8, Slots, Text, most}
 use Rattle.grammar.specs.Moves.{to, no, when, then, skip, unexpected, refusal}
 use Rattle.grammar.specs.Hcl.{hcl}
-use Rattle.grammar.specs.Table.{tableOf, textsOf, total, wordsOf}
+use Rattle.grammar.specs.Table.{Record, tableOf, textsOf, total, wordsOf, flatten, numbers}
 use Rattle.grammar.specs.Answer.{root, leftover, whole, pace, source, reading, formedAs, longAs, outcome, answer, roomAs, answerAs, answerOf}
 use Rattle.grammar.specs.Answer as grammar-answer
 use Rattle.grammar.specs.Bounds.{flatten-long, reading-small}
 use Rattle.grammar.specs.Checked.{checked}
+use Rattle.grammar.specs.RowLaws.{length-records}
 use Rattle.grammar.specs.Said.{Moved, wentOf}
-use Rattle.reader.specs.Buffer.{lay, write}
+use Rattle.reader.specs.Buffer.{lay, write, copied}
 use Rattle.reader.specs.Said.{stepOf, Climbs, Good, Kept, toldAs, Said}
-use Rattle.reader.specs.Read.{Wholes, Reads, answerFrom}
+use Rattle.reader.specs.Read.{Wholes, Fitting, Reads, answerFrom}
+use Rattle.reader.specs.NodeTextLaws.{take-before}
+use Rattle.reader.specs.NodeReadLaws.{lay-behind, written}
 use Rattle.reader.proofs.Answers.{good, from-good, refused, pass}
 use Rattle.reader.proofs.Exprs.{step-is, unexpected-is, unexpected-both}
 
@@ -97,11 +100,6 @@ module _ {s : List ℕ} {b b′ x x′ y y′ : List ℕ} {m : Step} (w : Said (
 
 -- ---- the answers of `read`
 
--- an empty part that was lent and came back
-pub nothing-first : (v b : List ℕ) → length v ≡ 0 → v ++ b ≡ b
-nothing-first [] b h = refl
-nothing-first (y ∷ v) b h = absurd (omega arith)
-
 module _ (s : List ℕ) where
   outcome-long : most < length s → outcome s ≡ halt Long 0
   unfolding outcome
@@ -121,9 +119,6 @@ module _ (s : List ℕ) where
   unfolding answerOf
   answer-as n t o e = ap (answerAs s n t) e
 
-pub read-back : {s b b′ x x′ : List ℕ} {r : Answer} → b′ ≡ b → x′ ≡ x → Reads s b b x x r → Reads s b b′ x x′ r
-read-back {s} {b} {b′} {x} {x′} {r} e f w = subst₂ (λ (c : List ℕ) (v : List ℕ). Reads s b c x v r) (sym e) (sym f) w
-
 -- a refusal of any source
 read-no : {s b x : List ℕ} {r : Answer} (k p : ℕ) → outcome s ≡ halt k p → 1 ≤ k → p ≤ length s → answerFrom r ≡ answer k p 0 0 → Reads s b b x x r
 read-no {s} {b} {x} k p o pos low e = record {
@@ -141,10 +136,49 @@ read-long {s} h e = read-no Long 0 (outcome-long s h) (omega arith) (omega arith
 pub read-bad : {s b x : List ℕ} {r : Answer} {p : ℕ} → length s ≤ most → p ≡ firstBad s → ¬ (p ≡ length s) → p ≤ length s → answerFrom r ≡ answer Utf8 p 0 0 → Reads s b b x x r
 read-bad {s} {p = p} h z f low e = read-no Utf8 p (outcome-bad s h (λ o. f (z ∙ o)) ∙ ap (halt Utf8) (sym z)) (omega arith) low e
 
+-- ---- what is copied of a reading into room of its own is what it would lay over the lent room
+
+numbers-long : (rs : List Record) → length (numbers rs) ≡ 7 * length rs
+numbers-long [] = refl
+numbers-long (r ∷ rs) = omega (arith, numbers-long rs)
+
+module _ (b c : List ℕ) (rs : List Record) (n : ℕ) (e : length rs ≡ n) (fits : 7 * n ≤ length b) (fits′ : 7 * n ≤ length c) where
+  lay-copied : copied (7 * n) (lay c 0 rs) b ≡ lay b 0 rs
+  lay-copied =
+      let long : 7 * n ≡ length (numbers rs) = omega (arith, e, numbers-long rs) in
+      let wide : length rs * 7 ≡ 7 * n = omega (arith, e) in
+      ap (λ (l : List ℕ). copied (7 * n) l b) (lay-behind c [] c 0 rs refl refl (omega (arith, e, fits′)))
+      ∙ ap (λ (k : ℕ). take k (numbers rs ++ drop (length rs * 7) c) ++ drop (7 * n) b) long
+      ∙ ap (λ (l : List ℕ). l ++ drop (7 * n) b) (take-before (numbers rs) (drop (length rs * 7) c))
+      ∙ ap (λ (k : ℕ). numbers rs ++ drop k b) (sym wide)
+      ∙ sym (lay-behind b [] b 0 rs refl refl (omega (arith, e, fits)))
+
+module _ (x v : List ℕ) (ts : List (List ℕ)) (n : ℕ) (e : total ts ≡ n) (fits : n ≤ length x) (fits′ : n ≤ length v) where
+  write-copied : copied n (write v 0 ts) x ≡ write x 0 ts
+  write-copied =
+      let long : n ≡ length (flatten ts) = omega (arith, e, flatten-long ts) in
+      ap (λ (l : List ℕ). copied n l x) (written v ts (omega (arith, e, fits′)))
+      ∙ ap (λ (k : ℕ). take k (flatten ts ++ drop (total ts) v) ++ drop n x) long
+      ∙ ap (λ (l : List ℕ). l ++ drop n x) (take-before (flatten ts) (drop (total ts) v))
+      ∙ ap (λ (k : ℕ). flatten ts ++ drop k x) (sym e)
+      ∙ sym (written x ts (omega (arith, e, fits)))
+
+-- a reading that is accepted with the lent room, and laid over it
+reads-fitting : {s b b′ x x′ : List ℕ} {m : Step} {r : Answer} → Fitting s b x m → ((t : Tree ℕ) → outcome s ≡ ok t → (b′ ≡ lay b 0 (tableOf s t)) × (x′ ≡ write x 0 (textsOf s 0 t)))
+    → length b′ ≡ length b → length x′ ≡ length x → answerFrom r ≡ answer 0 (m .end) (m .count) (m .text) → Reads s b b′ x x′ r
+reads-fitting f laid same same′ e = record {
+  is = e ∙ f .is;
+  same = λ o. absurd (o (ap (λ (a : grammar-answer.Answer). a .kind) e));
+  laid = λ o. laid;
+  long = (same, same′);
+  room = λ o. (omega (arith, f .few, ap (λ (a : grammar-answer.Answer). a .nodes) e), omega (arith, f .used, ap (λ (a : grammar-answer.Answer). a .text) e));
+  place = omega (arith, f .inside, ap (λ (a : grammar-answer.Answer). a .place) e);
+}
+
 ok-halt : {t : Tree ℕ} {k q : ℕ} → _≡_ {A = Outcome ℕ (Tree ℕ)} (ok t) (halt k q) → ⊥
 ok-halt e = let z : _≡_ {A = ℕ} 0 1 = cc in omega arith
 
--- the first pass, into empty parts
+-- the reading, into room of its own
 module _ {s : List ℕ} (h : length s ≤ most) {p : ℕ} (z : p ≡ firstBad s) (f : p ≡ length s) {c c′ v v′ y y′ : List ℕ} {m : Step} (w : Said (Wholes s) s 0 0 0 0 c c′ v v′ y y′ m) where
   is-reading : outcome s ≡ reading s
   is-reading = outcome-read s h (sym z ∙ f)
@@ -189,23 +223,35 @@ module _ {s : List ℕ} (h : length s ≤ most) {p : ℕ} (z : p ≡ firstBad s)
     pub read-text : {b x : List ℕ} {r : Answer} → m .count ≤ length b / 7 → length x < m .text → answerFrom r ≡ answer Text 0 (m .count) (m .text) → Reads s b b x x r
     read-text {b} {x} o l e = short Text e (omega arith) (e ∙ sym (has-answer (length b / 7) (length x) ∙ rw (le-ltb (length b / 7) (m .count) o, lt-ltb (length x) (m .text) l)))
 
-    -- the second pass, into enough room
-    again-as : (b b′ x x′ : List ℕ) (m′ : Step) (o : Outcome ℕ (Tree ℕ)) → reading s ≡ o → toldAs s 0 0 b b′ x x′ m′ o → (t : Tree ℕ) → reading s ≡ ok t → (b′ ≡ lay b 0 (tableOf s t)) × (x′ ≡ write x 0 (textsOf s 0 t))
-    again-as b b′ x x′ m′ (ok u) g (e, l, k, i) t q =
-        let j : u ≡ t = ok-inj (sym g ∙ q) in
-        (l ∙ ap (λ (o : Tree ℕ). lay b 0 (tableOf s o)) j, k ∙ ap (λ (o : Tree ℕ). write x 0 (textsOf s 0 o)) j)
-    again-as b b′ x x′ m′ (halt k q₁) g l t q = absurd (ok-halt (sym q ∙ g))
-    again-as b b′ x x′ m′ stuck g l t q = absurd l
+    -- it is accepted with the lent room
+    pub fitting : {b x : List ℕ} → m .count ≤ length b / 7 → m .text ≤ length x → Fitting s b x m
+    fitting {b} {x} few used = record {
+      is = ap (λ (o : ℕ). answer 0 o (m .count) (m .text)) end ∙ sym (has-answer (length b / 7) (length x) ∙ rw (le-ltb (length b / 7) (m .count) few, le-ltb (length x) (m .text) used));
+      few = few;
+      used = used;
+      inside = w .high;
+    }
 
-    pub read-accepted : {b b₁ b′ x x₁ x′ y″ y‴ : List ℕ} {m′ : Step} {r : Answer} → b₁ ≡ b → x₁ ≡ x → m .count ≤ length b / 7 → m .text ≤ length x → Said (Wholes s) s 0 0 0 0 b₁ b′ x₁ x′ y″ y‴ m′ → length b′ ≡ length b₁ → length x′ ≡ length x₁
-        → answerFrom r ≡ answer 0 (m .end) (m .count) (m .text) → Reads s b b′ x x′ r
-    read-accepted {b} {b₁} {b′} {x} {x₁} {x′} {y″} {y‴} {m′} eb ex few used w₁ same same′ e =
-        let w′ : Said (Wholes s) s 0 0 0 0 b b′ x x′ y″ y‴ m′ = subst₂ (λ (o : List ℕ) (q : List ℕ). Said (Wholes s) s 0 0 0 0 o b′ q x′ y″ y‴ m′) eb ex w₁ in
-        record {
-          is = e ∙ ap (λ (o : ℕ). answer 0 o (m .count) (m .text)) end ∙ sym (has-answer (length b / 7) (length x) ∙ rw (le-ltb (length b / 7) (m .count) few, le-ltb (length x) (m .text) used));
-          same = λ o. absurd (o (ap (λ (a : grammar-answer.Answer). a .kind) e));
-          laid = λ o t q. again-as b b′ x x′ m′ (w′ .out) (w′ .gives) (w′ .told) t (sym is-reading ∙ q);
-          long = (same ∙ ap length eb, same′ ∙ ap length ex);
-          room = λ o. (omega (arith, ap (λ (a : grammar-answer.Answer). a .nodes) e), omega (arith, ap (λ (a : grammar-answer.Answer). a .text) e));
-          place = omega (arith, ap (λ (a : grammar-answer.Answer). a .place) e, end);
-        }
+    -- and copied there
+    pub read-copied : {b b′ x x′ : List ℕ} {r : Answer} → m .count ≤ length b / 7 → m .text ≤ length x → m .count ≤ length c / 7 → m .text ≤ length v → b′ ≡ copied (7 * m .count) c′ b → x′ ≡ copied (m .text) v′ x
+        → length b′ ≡ length b → length x′ ≡ length x → answerFrom r ≡ answer 0 (m .end) (m .count) (m .text) → Reads s b b′ x x′ r
+    read-copied {b} {b′} {x} {x′} few used few′ used′ eb ex same same′ e =
+        let t : Tree ℕ = found .tree in
+        let n : length (tableOf s t) ≡ m .count = length-records s 0 0 t ∙ found .count in
+        let laid : b′ ≡ lay b 0 (tableOf s t) = eb ∙ ap (λ (l : List ℕ). copied (7 * m .count) l b) (found .laid) ∙ lay-copied b c (tableOf s t) (m .count) n (omega (arith, few)) (omega (arith, few′)) in
+        let written : x′ ≡ write x 0 (textsOf s 0 t) = ex ∙ ap (λ (l : List ℕ). copied (m .text) l x) (found .written) ∙ write-copied x v (textsOf s 0 t) (m .text) (found .text) used used′ in
+        reads-fitting (fitting few used) (λ (u : Tree ℕ) q.
+        let j : t ≡ u = ok-inj (sym (is-reading ∙ found .gives) ∙ q) in
+        (laid ∙ ap (λ (o : Tree ℕ). lay b 0 (tableOf s o)) j, written ∙ ap (λ (o : Tree ℕ). write x 0 (textsOf s 0 o)) j)) same same′ e
+
+-- the reading again, into the lent room
+module _ {s : List ℕ} (h : length s ≤ most) (z : firstBad s ≡ length s) {b b′ x x′ y y′ : List ℕ} {m : Step} (w : Said (Wholes s) s 0 0 0 0 b b′ x x′ y y′ m) where
+  again-as : (o : Outcome ℕ (Tree ℕ)) → reading s ≡ o → toldAs s 0 0 b b′ x x′ m o → (t : Tree ℕ) → reading s ≡ ok t → (b′ ≡ lay b 0 (tableOf s t)) × (x′ ≡ write x 0 (textsOf s 0 t))
+  again-as (ok u) g (e, l, k, i) t q =
+      let j : u ≡ t = ok-inj (sym g ∙ q) in
+      (l ∙ ap (λ (o : Tree ℕ). lay b 0 (tableOf s o)) j, k ∙ ap (λ (o : Tree ℕ). write x 0 (textsOf s 0 o)) j)
+  again-as (halt k q₁) g l t q = absurd (ok-halt (sym q ∙ g))
+  again-as stuck g l t q = absurd l
+
+  pub read-again : {k : Step} {r : Answer} → Fitting s b x k → length b′ ≡ length b → length x′ ≡ length x → answerFrom r ≡ answer 0 (k .end) (k .count) (k .text) → Reads s b b′ x x′ r
+  read-again f same same′ e = reads-fitting f (λ t q. again-as (w .out) (w .gives) (w .told) t (sym (outcome-read s h z) ∙ q)) same same′ e

@@ -1,8 +1,8 @@
 -- The lent buffers: records of seven numbers each, and texts, each only where it fits.
 use Prim.Native.Nat.{ℕ, suc, _+_, _*_, _/_}
-use mathlib.Core.List.{List, [], _∷_}
+use mathlib.Core.List.{List, [], _∷_, _++_}
 use mathlib.Core.Bool.{Bool, true, false}
-use lib.ListN.{length, set}
+use lib.ListN.{length, set, take, drop}
 use lib.Dec.{ltb}
 use Rattle.lexis.specs.String.{laid}
 use Rattle.grammar.specs.Table.{Record}
@@ -25,3 +25,7 @@ lay b i (x ∷ xs) = lay (putAt b i x) (i + 1) xs
 unfoldable pub write : List ℕ → ℕ → List (List ℕ) → List ℕ
 write x u [] = x
 write x u (t ∷ ts) = write (laid x u t) (u + length t) ts
+
+-- the first n of a in place of those of b
+abbrev pub copied : ℕ → List ℕ → List ℕ → List ℕ
+copied n a b = take n a ++ drop n b

@@ -4,6 +4,7 @@ use mathlib.Core.Path.{_≡_}
 use mathlib.Core.List.{List}
 use lib.ListN.{length}
 use Rattle.reader.specs.declared.Answer.{Answer}
+use Rattle.reader.specs.declared.Step.{Step}
 use Rattle.lexis.specs.Utf8.{firstBad}
 use Rattle.engine.specs.Base.{Outcome, ok, Tree}
 use Rattle.grammar.specs.Answer.{answer, answerOf, outcome, reading}
@@ -23,6 +24,13 @@ Wholes s o = reading s ≡ o
 pub record Clean (n : ℕ) (s : List ℕ) : Type 0 where
   pub small : length s ≤ n
   pub whole : firstBad s ≡ length s
+
+-- m is the reading of a source s that is accepted with lent room b and x
+pub record Fitting (s b x : List ℕ) (m : Step) : Type 0 where
+  pub is : answer 0 (m .end) (m .count) (m .text) ≡ answerOf s (length b / 7) (length x)
+  pub few : m .count ≤ length b / 7
+  pub used : m .text ≤ length x
+  pub inside : m .end ≤ length s
 
 -- a source s, with lent room b for records of seven numbers and x for text; b′ and x′ are what these hold afterwards
 pub record Reads (s b b′ x x′ : List ℕ) (r : Answer) : Type 0 where

@@ -1,4 +1,6 @@
-// The reader: a first pass into empty parts, and where all is well a second one that writes.
+// The reader: a source is read into room of its own, and where all is well that is copied into the lent room.
+use crate::copy::bytes;
+use crate::copy::numbers;
 use crate::whole::whole;
 use grammar::kinds::Refusal;
 use lexis::utf8::first_bad;
@@ -6,8 +8,9 @@ ghost use mathlib.Core.Path.{_≡_};
 ghost use Prim.Native.Nat.{_*_, _≤_};
 ghost use lib.ListN.{length};
 ghost use Rattle.grammar.specs.Answer.{answer};
-ghost use Rattle.reader.specs.Read.{Clean, Reads, answerFrom};
+ghost use Rattle.reader.specs.Read.{Clean, Fitting, Reads, answerFrom};
 
+mod copy;
 mod items;
 pub mod node;
 mod put;
@@ -31,58 +34,88 @@ pub struct Answer {
     pub text: usize,
 }
 
-// Both passes over a source of well-formed UTF-8, with room for its keys.
-fn passes(source: &[u8], nodes: &mut [u16], text: &mut [u8], keys: &mut [u16]) -> Answer
-    requires { ⌜ Clean 65535 (now source) × (4 * length (now source) ≤ 3 * length (now keys)) ⌝ }
+// A source whose reading m has more records or text than was kept of it: it is read again, into the lent room.
+fn again(source: &[u8], nodes: &mut [u16], text: &mut [u8], keys: &mut [u16], m: Step) -> Answer
+    requires { ⌜ Clean 65535 (now source) × (4 * length (now source) ≤ 3 * length (now keys)) × Fitting (now source) (now nodes) (now text) m ⌝ }
     ensures { λ r. ⌜ Reads (now (source .entry)) (now (nodes .entry)) (now (nodes .exit)) (now (text .entry)) (now (text .exit)) r ⌝ }
 {
-    let slots = nodes.len() / 7;
-    let room = text.len();
-    let m = whole(source, &mut nodes[..0], &mut text[..0], keys);
-    if m.kind != 0 {
-        return told(m.kind, m.end, 0, 0);
-    }
-    if m.count > slots {
-        return told(Refusal::SLOTS, 0, m.count, m.text);
-    }
-    if m.text > room {
-        return told(Refusal::TEXT, 0, m.count, m.text);
-    }
     whole(source, nodes, text, keys);
     told(0, m.end, m.count, m.text)
 }
 
-// A source has a key in three bytes at most, and a key takes four numbers. A short source has little room for them, since all of it is cleared.
+// A source of well-formed UTF-8, with room for its keys. It is read into room for records and text of its own, which is copied where all is well.
+fn once(
+    source: &[u8],
+    nodes: &mut [u16],
+    text: &mut [u8],
+    keys: &mut [u16],
+    rows: &mut [u16],
+    runs: &mut [u8],
+) -> Answer
+    requires { ⌜ Clean 65535 (now source) × (4 * length (now source) ≤ 3 * length (now keys)) ⌝ }
+    ensures { λ r. ⌜ Reads (now (source .entry)) (now (nodes .entry)) (now (nodes .exit)) (now (text .entry)) (now (text .exit)) r ⌝ }
+{
+    let m = whole(source, rows, runs, keys);
+    if m.kind != 0 {
+        return told(m.kind, m.end, 0, 0);
+    }
+    if m.count > nodes.len() / 7 {
+        return told(Refusal::SLOTS, 0, m.count, m.text);
+    }
+    if m.text > text.len() {
+        return told(Refusal::TEXT, 0, m.count, m.text);
+    }
+    if m.count > rows.len() / 7 {
+        return again(source, nodes, text, keys, m);
+    }
+    if m.text > runs.len() {
+        return again(source, nodes, text, keys, m);
+    }
+    numbers(rows, nodes, 7 * m.count);
+    bytes(runs, text, m.text);
+    told(0, m.end, m.count, m.text)
+}
+
+// A key takes four numbers, and a source has one in three bytes at most. It has room for a record in two bytes and for a byte of text in four. The first content is never
+// looked at: it is 1, as the compiler fills such arrays with wide stores, and clears others byte by byte.
 fn read_1k(source: &[u8], nodes: &mut [u16], text: &mut [u8]) -> Answer
     requires { ⌜ Clean 1024 (now source) ⌝ }
     ensures { λ r. ⌜ Reads (now (source .entry)) (now (nodes .entry)) (now (nodes .exit)) (now (text .entry)) (now (text .exit)) r ⌝ }
 {
-    let mut keys = [0u16; 1368];
-    passes(source, nodes, text, &mut keys)
+    let mut keys = [1u16; 1368];
+    let mut rows = [1u16; 3584];
+    let mut runs = [0u8; 256];
+    once(source, nodes, text, &mut keys, &mut rows, &mut runs)
 }
 
 fn read_4k(source: &[u8], nodes: &mut [u16], text: &mut [u8]) -> Answer
     requires { ⌜ Clean 4096 (now source) ⌝ }
     ensures { λ r. ⌜ Reads (now (source .entry)) (now (nodes .entry)) (now (nodes .exit)) (now (text .entry)) (now (text .exit)) r ⌝ }
 {
-    let mut keys = [0u16; 5464];
-    passes(source, nodes, text, &mut keys)
+    let mut keys = [1u16; 5464];
+    let mut rows = [1u16; 14336];
+    let mut runs = [0u8; 1024];
+    once(source, nodes, text, &mut keys, &mut rows, &mut runs)
 }
 
 fn read_16k(source: &[u8], nodes: &mut [u16], text: &mut [u8]) -> Answer
     requires { ⌜ Clean 16384 (now source) ⌝ }
     ensures { λ r. ⌜ Reads (now (source .entry)) (now (nodes .entry)) (now (nodes .exit)) (now (text .entry)) (now (text .exit)) r ⌝ }
 {
-    let mut keys = [0u16; 21848];
-    passes(source, nodes, text, &mut keys)
+    let mut keys = [1u16; 21848];
+    let mut rows = [1u16; 57344];
+    let mut runs = [0u8; 4096];
+    once(source, nodes, text, &mut keys, &mut rows, &mut runs)
 }
 
 fn read_64k(source: &[u8], nodes: &mut [u16], text: &mut [u8]) -> Answer
     requires { ⌜ Clean 65535 (now source) ⌝ }
     ensures { λ r. ⌜ Reads (now (source .entry)) (now (nodes .entry)) (now (nodes .exit)) (now (text .entry)) (now (text .exit)) r ⌝ }
 {
-    let mut keys = [0u16; 87380];
-    passes(source, nodes, text, &mut keys)
+    let mut keys = [1u16; 87380];
+    let mut rows = [1u16; 229376];
+    let mut runs = [0u8; 16384];
+    once(source, nodes, text, &mut keys, &mut rows, &mut runs)
 }
 
 // Reads a source into lent room: records of seven numbers each, children first, and unescaped text.
