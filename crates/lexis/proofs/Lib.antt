@@ -4,6 +4,7 @@ pub mod Words
 pub mod Numbers
 pub mod Operators
 pub mod Sequences
+pub mod Blocks
 pub mod Wellformed
 pub mod Lines
 pub mod Openers

@@ -1,9 +1,9 @@
 -- Well-formed UTF-8 (Unicode, Table 3-7): sequences of one to four bytes, and sources that are made of them.
-use Prim.Native.Nat.{ℕ, zero, suc, _+_, _-_, _/_, _%_, _≤_, _<_}
+use Prim.Native.Nat.{ℕ, zero, suc, _+_, _-_, _/_, _%_, _≤_, _<_, max}
 use mathlib.Core.Path.{_≡_}
 use mathlib.Core.List.{List, [], _∷_, _++_}
 use mathlib.Core.Bool.{Bool, true, false, cond, _&&_, _||_}
-use lib.ListN.{length, drop, replicate}
+use lib.ListN.{length, take, drop, replicate}
 use lib.Dec.{leb, ltb, eqb}
 
 -- from a byte to a byte, both included
@@ -87,6 +87,15 @@ firstBad s = goodAfter 0 s
 pub record FirstBad (s : List ℕ) (r : ℕ) : Type 0 where
   pub is : r ≡ firstBad s
   pub high : r ≤ length s
+
+-- the greatest byte of a list; 0 where it has none
+unfoldable pub greatest : List ℕ → ℕ
+greatest [] = 0
+greatest (b ∷ s) = max b (greatest s)
+
+-- whether a list begins with a whole block of 64 bytes, all of them ASCII
+abbrev pub asciiBlock : List ℕ → Bool
+asciiBlock s = leb 64 (length s) && ltb (greatest (take 64 s)) 0x80
 
 -- a Unicode scalar value: no surrogate, and nothing over 10FFFF
 abbrev pub isScalar : ℕ → Bool

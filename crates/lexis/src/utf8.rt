@@ -2,9 +2,12 @@
 use crate::bytes::byte_at;
 use crate::bytes::within;
 ghost use mathlib.Core.Path.{_≡_};
-ghost use Prim.Native.Nat.{_+_, _≤_, _<_};
-ghost use lib.ListN.{length, drop};
-ghost use Rattle.lexis.specs.Utf8.{Wide, behindOf, FirstBad};
+ghost use Prim.Native.Nat.{_+_, _≤_, _<_, max};
+ghost use lib.ListN.{length, take, drop};
+ghost use Rattle.lexis.specs.Utf8.{Wide, behindOf, greatest, asciiBlock, FirstBad};
+
+// How many bytes are looked at in one go.
+const BLOCK: usize = 64;
 
 // The width of a sequence by what stands from p on, behind its first byte: a byte from low to high, then n - 1 tails. 0 where another byte stands.
 fn behind(s: &[u8], p: usize, low: u16, high: u16, n: usize) -> usize
@@ -65,16 +68,53 @@ fn width(s: &[u8], p: usize) -> usize
     0
 }
 
-// The first byte of the first bad sequence; the length where there is none.
+// The greater of two bytes.
+fn higher(a: u8, b: u8) -> u8
+    ensures { λ r. ⌜ r ≡ max a b ⌝ }
+{
+    if a < b { b } else { a }
+}
+
+// The greatest byte of the block at p. A loop without a way out in its middle: it is compiled to a few wide operations.
+fn highest(s: &[u8], p: usize) -> u8
+    requires { ⌜ p + 64 ≤ length (now s) ⌝ }
+    ensures { λ r. ⌜ r ≡ greatest (take 64 (drop p (now (s .entry)))) ⌝ }
+{
+    let mut m: u8 = 0;
+    let mut i = 0;
+    while i < BLOCK {
+        m = higher(m, s[p + i]);
+        i += 1;
+    }
+    m
+}
+
+// Whether a whole block of ASCII stands at p.
+fn ascii_at(s: &[u8], p: usize) -> bool
+    requires { ⌜ p ≤ length (now s) ⌝ }
+    ensures { λ r. ⌜ r ≡ asciiBlock (drop p (now (s .entry))) ⌝ }
+{
+    BLOCK <= s.len() - p && highest(s, p) < 0x80
+}
+
+// The first byte of the first bad sequence; the length where there is none. Most blocks are ASCII, and passed at once.
 pub fn first_bad(s: &[u8]) -> usize
     ensures { λ r. ⌜ FirstBad (now (s .entry)) r ⌝ }
 {
     let mut i = 0;
     loop {
-        let w = width(s, i);
-        if w == 0 {
-            return i;
+        if ascii_at(s, i) {
+            i += BLOCK;
+            continue;
         }
-        i += w;
+        let mut n = 0;
+        while n < BLOCK {
+            let w = width(s, i);
+            if w == 0 {
+                return i;
+            }
+            i += w;
+            n += 1;
+        }
     }
 }
