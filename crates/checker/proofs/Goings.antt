@@ -1,6 +1,6 @@
 -- Moves of the checker's own: atom by atom.
 use Prim.Native.Nat.{ℕ, zero, suc, _+_, _-_, _≤_, _<_}
-use mathlib.Core.Path.{_≡_, refl, sym, ap, _∙_}
+use mathlib.Core.Path.{_≡_, refl, sym, ap, subst, _∙_}
 use mathlib.Core.List.{List, [], _∷_}
 use mathlib.Core.Bool.{Bool, true, false, cond, not, _&&_, _||_}
 use mathlib.Core.Option.{none, some}
@@ -16,13 +16,13 @@ use Rattle.lexis.specs.Keys.{among}
 use Rattle.lexis.specs.RunLaws.{stands-one}
 use Rattle.grammar.specs.declared.moves.Went.{Went}
 use Rattle.grammar.specs.Kinds.{Foreign, Unexpected}
-use Rattle.grammar.specs.Moves.{Under, Step, to, no, then, place, when, unexpected, Atom, gap, mark, opens, unless, stop, ended, fresh, any, line, keysOf, behindKey, skip, marks, level, opening, stopStep, stopping, atom, Move, walk}
+use Rattle.grammar.specs.Moves.{Under, Step, to, no, then, place, when, unexpected, Atom, gap, mark, opens, unless, stop, ended, fresh, any, line, here, Want, keysOf, behindKey, skip, marks, level, opening, stopStep, stopping, atom, Move, walk}
 use Rattle.grammar.specs.Hcl.{under}
 use Rattle.grammar.specs.Code.{moveAt}
 use Rattle.grammar.specs.Said.{went, Moved, Made, Walked}
 use Rattle.checker.specs.Program.{ownMove, moveIn}
 use Rattle.checker.specs.Leaf.{GoneAt}
-use Rattle.checker.specs.LeafMore.{Past, Comes, Goes}
+use Rattle.checker.specs.LeafMore.{Past, Comes, Goes, SignBy}
 
 -- ---- steps
 
@@ -218,6 +218,54 @@ module _ {s : List ℕ} {p : ℕ} {g : Went} (sp : Moved s p false g) where
       pub more-here : w .kind ≡ 0 → stands (125 ∷ []) s (w .at) ≡ false → Goes s (ownMove 4) p w
       unfolding atom
       more-here y h = gap-on z (stop-on y (on (unless 125) (w .at) (λ b σ k. rw (brace s (w .at) h)) (done (ap (λ (x : ℕ). went x (w .at)) y) refl)))
+
+-- ---- trivia alone
+
+module _ {s : List ℕ} {p : ℕ} {lines : Bool} {g : Went} (sp : Moved s p lines g) where
+  pub here-on : g .kind ≡ 0 → (left σ : ℕ) (w : Want) → place (walk s (under left lines w) σ (gap here ∷ []) p) ≡ some (g .at)
+  unfolding walk atom
+  here-on z left σ w = rw (sp .good z)
+
+  pub here-no : ¬ (g .kind ≡ 0) → (left σ : ℕ) (w : Want) → place (walk s (under left lines w) σ (gap here ∷ []) p) ≡ none
+  unfolding walk atom
+  here-no n left σ w = rw (sp .bad n)
+
+module _ {s : List ℕ} {p : ℕ} {g : Went} (sp : Moved s p false g) where
+  pub line-on : g .kind ≡ 0 → (b : Under) (σ : ℕ) → place (walk s b σ (gap line ∷ []) p) ≡ some (g .at)
+  unfolding walk atom
+  line-on z b σ = rw (sp .good z)
+
+  pub line-no : ¬ (g .kind ≡ 0) → (b : Under) (σ : ℕ) → place (walk s b σ (gap line ∷ []) p) ≡ none
+  unfolding walk atom
+  line-no n b σ = rw (sp .bad n)
+
+-- ---- the sign of an item
+
+module _ {s : List ℕ} {m : Move} {p : ℕ} {r : Went} (g : Goes s m p r) where
+  goes-yes : r .kind ≡ 0 → Goes s m p (went 0 (r .at))
+  goes-yes z = record { good = λ y. g .good z; bad = λ n. absurd (n refl) }
+
+  goes-no : ¬ (r .kind ≡ 0) → Goes s m p (went 1 p)
+  goes-no n = record { good = λ y. absurd (omega arith); bad = λ y. g .bad n }
+
+module _ {s : List ℕ} {p : ℕ} {e : Went} (g : Goes s (ownMove 2) p e) where
+  pub sign-equals : e .kind ≡ 0 → SignBy s p e
+  sign-equals z = record { equals = λ y. goes-yes g z; colon = λ y. absurd (omega arith); none = λ n. absurd (n (omega arith)) }
+
+  module _ (n : ¬ (e .kind ≡ 0)) {c r : Went} (h : Goes s (ownMove 3) p c) where
+    pub sign-colon : c .kind ≡ 0 → r ≡ went 1 (c .at) → SignBy s p r
+    sign-colon z f =
+        let k : r .kind ≡ 1 = ap (λ (w : Went). w .kind) f in
+        record {
+          equals = λ y. absurd (omega arith);
+          colon = λ y. (goes-no g n, subst (λ (o : ℕ). Goes s (ownMove 3) p (went 0 o)) (sym (ap (λ (w : Went). w .at) f)) (goes-yes h z));
+          none = λ y. absurd (y (omega arith));
+        }
+
+    pub sign-none : ¬ (c .kind ≡ 0) → r ≡ went 2 p → SignBy s p r
+    sign-none z f =
+        let k : r .kind ≡ 2 = ap (λ (w : Went). w .kind) f in
+        record { equals = λ y. absurd (omega arith); colon = λ y. absurd (omega arith); none = λ y. (goes-no g n, goes-no h z) }
 
 -- ---- by its number
 

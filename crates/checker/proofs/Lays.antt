@@ -38,7 +38,7 @@ use Rattle.checker.proofs.Overs.{AtKid, over-fin, over-kid, over-move, 
 -- ---- small laws
 
 -- no kind is handed keys at its own node
-no-keys : (k : ℕ) → keysOf (wantOf k) ≡ []
+pub no-keys : (k : ℕ) → keysOf (wantOf k) ≡ []
 no-keys k = go (eqb k 17) (eqb k 13) _ (eqb k 20) (eqb k 10)
   where
     go : (a b c d e : Bool) → keysOf (wantAs a b c d e) ≡ []

@@ -4,6 +4,7 @@ pub mod Precedences
 pub mod Lones
 mod Lays
 mod Passes
+mod Directs
 mod Strands
 mod TextTurns
 pub mod Tables

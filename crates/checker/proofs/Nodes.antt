@@ -13,17 +13,21 @@ use Rattle.lexis.specs.RunLaws.{clash}
 use Rattle.engine.specs.Base.{Rec, has}
 use Rattle.engine.specs.Rule.{Kids, knil, kcons}
 use Rattle.grammar.specs.Kinds.{tightOf, holdOf}
-use Rattle.grammar.specs.Moves.{anExpression, round}
+use Rattle.grammar.specs.declared.picks.Head.{Head}
+use Rattle.grammar.specs.Moves.{anExpression, round, to, gap, here, operator, walk}
+use Rattle.grammar.specs.Layouts.{layoutOf, operatorLay}
+use Rattle.grammar.specs.Alone.{NextAt}
 use Rattle.grammar.specs.Hcl.{under, followAt}
 use Rattle.grammar.specs.Said.{kindOf, Follow}
 use Rattle.grammar.specs.Published.{Depth, Laid, ruleAs, Rule}
 use Rattle.grammar.specs.RuleTable.{kids-same, kids-le}
+use Rattle.checker.specs.declared.node.Left.{Left}
 use Rattle.checker.specs.Rows.{rowAt, rows, recAt}
 use Rattle.checker.specs.Family.{Chain, Linked, Family}
 use Rattle.checker.specs.Leaf.{kindsBy, FirstAt}
 use Rattle.checker.specs.Lay.{coded, depthsAt, LaidBy}
 use Rattle.checker.specs.Texts.{Sanes, Spelts, TextBy}
-use Rattle.checker.specs.Node.{Noding, Worded, RuleBy, LeftAt, NodeBy}
+use Rattle.checker.specs.Node.{Noding, Worded, RuleBy, LeftAt, noLeft, LeftTo, NodeBy}
 
 -- ---- a left operand
 
@@ -50,6 +54,21 @@ module _ {s t : List ℕ} {i l : ℕ} {lines : Bool} where
     where
       follow : (n : ℕ) → x ≡ kindOf (followAt s (under n lines anExpression) ((rowAt t l) .end))
       follow n = f n ∙ ap (λ (o : ℕ). kindOf (followAt s (under n lines anExpression) o)) q
+
+  pub left-to-no : {r : Left} → LeftAt s t i l lines false → r ≡ noLeft → LeftTo s t i l lines r
+  left-to-no h e = subst (LeftTo s t i l lines) (sym e) (record { left = h; operates = λ z. clash (sym z) })
+
+  pub left-to : {x : Head} {p : ℕ} → p ≡ (rowAt t l) .end → NextAt s p lines x → LeftAt s t i l lines (eqb (x .kind) ((rowAt t i) .kind)) → LeftTo s t i l lines (record { good = eqb (x .kind) ((rowAt t i) .kind); end = x .end })
+  left-to {x} {p} q h f = record {
+    left = f;
+    operates = λ z n.
+        let e : x .kind ≡ (rowAt t i) .kind = eqb-true (x .kind) ((rowAt t i) .kind) z in
+        let m : x .end ≡ p → ⊥ = λ y. n (y ∙ q) in
+        record {
+          goes = λ left σ w. subst (λ (o : ℕ). walk s (under left lines w) σ (gap here ∷ operator o ∷ []) ((rowAt t l) .end) ≡ to (x .end)) e (subst (λ (o : ℕ). walk s (under left lines w) σ (gap here ∷ operator (x .kind) ∷ []) o ≡ to (x .end)) q (h .operates m left σ w));
+          lays = subst (λ (o : ℕ). layoutOf o ≡ operatorLay o (tightOf o)) e (h .lays m);
+        };
+  }
 
 -- ---- a piece
 

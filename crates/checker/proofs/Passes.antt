@@ -24,7 +24,7 @@ use Rattle.checker.specs.declared.pass.Passed.{Passed}
 use Rattle.checker.specs.Rows.{rowAt, recAt}
 use Rattle.checker.specs.Program.{classIn}
 use Rattle.checker.specs.Leaf.{kindsBy, ChildAt}
-use Rattle.checker.specs.Lay.{coded, Both, KeysOf, SuitsAt, MetAt, noPass, Passing, PassedBy, EndsAt}
+use Rattle.checker.specs.Lay.{coded, Both, KeysOf, SuitsAt, KidBy, MetAt, noPass, Passing, PassedBy, EndsAt}
 
 -- ---- the end of a row
 
@@ -51,6 +51,19 @@ module _ {t : List ℕ} {j at n w : ℕ} where
 
   pub suits-by : {r : Bool} → r ≡ has (kindsBy w) ((rowAt t j) .kind) → (rowAt t j) .start ≡ at → n < tightOf ((rowAt t j) .kind) → SuitsAt t j at n w r
   suits-by e a b = record { start = λ z. a; bound = λ z. b; kind = λ z. is-t _ (sym e ∙ z); no = λ z c d f g. not-t _ (sym e ∙ z) g }
+
+-- ---- a child that is no item
+
+module _ {t : List ℕ} {i : ℕ} {D : List ℕ} {j at n w v : ℕ} where
+  pub kid-none : j ≡ i → KidBy t i D D j at n w v false
+  kid-none e = record { inside = λ z. clash (sym z); suits = λ z. clash (sym z); put = λ z. clash (sym z); still = λ z. refl; no = λ z l. absurd (omega arith); long = refl }
+
+  module _ {r : Bool} (h : SuitsAt t j at n w r) where
+    pub kid-not : r ≡ false → KidBy t i D D j at n w v false
+    kid-not e = record { inside = λ z. clash (sym z); suits = λ z. clash (sym z); put = λ z. clash (sym z); still = λ z. refl; no = λ z l. subst (SuitsAt t j at n w) e h; long = refl }
+
+    pub kid-yes : r ≡ true → j < i → KidBy t i D (set D j v) j at n w v true
+    kid-yes e l = record { inside = λ z. l; suits = λ z. subst (SuitsAt t j at n w) e h; put = λ z. refl; still = λ z. clash z; no = λ z. clash z; long = length-set D j v }
 
 -- ---- its key
 
@@ -175,7 +188,7 @@ module _ (s t : List ℕ) (i : ℕ) (m D K : List ℕ) (j n c left : ℕ) (lines
 
   module _ {y : Child} (h : ChildAt c left lines y) where
     -- what is tested of its kind, and what is asked
-    kinds-in : (w : Want) (σ : ℕ) (ks : List (Rec ℕ)) (x : Rec ℕ) → Both s (downs s (under left lines w) (classIn c) σ ks) (classIn c) x → (y .bound < tightOf (x .kind)) × T (has (kindsBy (y .want)) (x .kind))
+    pub kinds-in : (w : Want) (σ : ℕ) (ks : List (Rec ℕ)) (x : Rec ℕ) → Both s (downs s (under left lines w) (classIn c) σ ks) (classIn c) x → (y .bound < tightOf (x .kind)) × T (has (kindsBy (y .want)) (x .kind))
     kinds-in w σ ks x (b, u) = (omega (arith, b, h .bound), subst (λ (o : List ℕ). T (has o (x .kind))) (h .kinds s w σ ks) (u .kind))
 
     pub pass-suits : {b : Bool} {r : Passed} → SuitsAt t j at (y .bound) (y .want) b → b ≡ false → r ≡ noPass n → PassedBy s t i m D D K K j n c left lines at r

@@ -11,8 +11,8 @@ use Rattle.index.specs.Index as index
 use Rattle.engine.specs.Base.{Rec, has}
 use Rattle.engine.specs.Rule.{Runs}
 use Rattle.grammar.specs.Kinds.{tightOf}
-use Rattle.grammar.specs.Moves.{Want, Under, lone, lones}
-use Rattle.grammar.specs.Layouts.{Class, entry, Layout, layoutOf}
+use Rattle.grammar.specs.Moves.{Want, Under, to, gap, here, operator, walk, lone, lones}
+use Rattle.grammar.specs.Layouts.{Class, entry, Layout, layoutOf, operatorLay}
 use Rattle.grammar.specs.Hcl.{hcl, under, downs, bounds, styles, starts}
 use Rattle.grammar.specs.Published.{Depth, depth, depthOf, wantOf, Suits}
 use Rattle.checker.specs.declared.pass.Met.{Met}
@@ -47,6 +47,21 @@ pub record SuitsAt (t : List ℕ) (j at n w : ℕ) (r : Bool) : Type 0 where
   pub bound : r ≡ true → n < tightOf ((rowAt t j) .kind)
   pub kind : r ≡ true → T (has (kindsBy w) ((rowAt t j) .kind))
   pub no : r ≡ false → (rowAt t j) .start ≡ at → (rowAt t j) .start < (rowAt t j) .end → n < tightOf ((rowAt t j) .kind) → T (has (kindsBy w) ((rowAt t j) .kind)) → ⊥
+
+-- what `kid` asks for: a row up to the i-th
+pub record Seating (t : List ℕ) (i : ℕ) (D : List ℕ) (j : ℕ) : Type 0 where
+  pub within : 7 * i + 7 ≤ length t
+  pub deep : i < length D
+  pub linked : j ≤ i
+
+-- `r` says whether the row j is before the row i and suits its place; then the depth v is put down for it
+pub record KidBy (t : List ℕ) (i : ℕ) (D D′ : List ℕ) (j at n w v : ℕ) (r : Bool) : Type 0 where
+  pub inside : r ≡ true → j < i
+  pub suits : r ≡ true → SuitsAt t j at n w true
+  pub put : r ≡ true → D′ ≡ set D j v
+  pub still : r ≡ false → D′ ≡ D
+  pub no : r ≡ false → j < i → SuitsAt t j at n w false
+  pub long : length D′ ≡ length D
 
 -- what `meet` asks for: n slots with the keys so far, and room for one more
 pub record Meeting (s K : List ℕ) (n : ℕ) : Type 0 where
@@ -126,6 +141,14 @@ pub record Laying (t : List ℕ) (i : ℕ) (m D K : List ℕ) (j left : ℕ) : T
   pub chain : Chain m i js j
   pub known : T (has laidOut ((rowAt t i) .kind))
 
+-- what a layout asks for that is gone through with no program: children that are linked from the row j on
+pub record Direct (t : List ℕ) (i : ℕ) (m D : List ℕ) (j : ℕ) : Type 0 where
+  pub within : 7 * i + 7 ≤ length t
+  pub marked : i < length m
+  pub deep : i < length D
+  pub js : List ℕ
+  pub chain : Chain m i js j
+
 -- the children js of the row i, and those before them, of an object none
 pub record Children (t : List ℕ) (i : ℕ) (m : List ℕ) (j : ℕ) (ks : List (Rec ℕ)) (js : List ℕ) : Type 0 where
   pub chain : Chain m i js j
@@ -138,3 +161,12 @@ pub record LaidBy (s t : List ℕ) (i : ℕ) (m D D′ : List ℕ) (j p left : �
   pub yes : r ≡ true → (ks : List (Rec ℕ)) (js : List ℕ) → Children t i m j ks js → (bs : List (Under × ℕ)) × Over s t i left lines ks (layoutOf ((rowAt t i) .kind)) p (map (recAt t) js) bs
   pub only : r ≡ true → (ks : List (Rec ℕ)) (js : List ℕ) → Children t i m j ks js → (bs : List (Under × ℕ)) → Over s t i left lines ks (layoutOf ((rowAt t i) .kind)) p (map (recAt t) js) bs → depthsAt D′ js ≡ map depthOf bs
   pub no : r ≡ false → (ks : List (Rec ℕ)) (js : List ℕ) → Children t i m j ks js → Filled t js → (bs : List (Under × ℕ)) → Over s t i left lines ks (layoutOf ((rowAt t i) .kind)) p (map (recAt t) js) bs → ⊥
+
+-- a binary operator, that of the row i, stands behind the trivia from p on, and ends at e
+pub record Operates (s t : List ℕ) (i : ℕ) (lines : Bool) (p e : ℕ) : Type 0 where
+  pub goes : (left σ : ℕ) (w : Want) → walk s (under left lines w) σ (gap here ∷ operator ((rowAt t i) .kind) ∷ []) p ≡ to e
+  pub lays : layoutOf ((rowAt t i) .kind) ≡ operatorLay ((rowAt t i) .kind) (tightOf ((rowAt t i) .kind))
+
+-- `r` says the same for a binary operator that ends at e, wherever its trivia starts
+pub record OperatorBy (s t : List ℕ) (i : ℕ) (m D D′ : List ℕ) (j e own : ℕ) (r : Bool) : Type 0 where
+  pub laid : (p : ℕ) → Operates s t i (eqb (own % 2) 1) p e → LaidBy s t i m D D′ j p (own / 2) (eqb (own % 2) 1) r

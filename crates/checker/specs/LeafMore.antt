@@ -12,11 +12,11 @@ use Rattle.lexis.specs.String.{textAt, modeOf}
 use Rattle.grammar.specs.declared.shape.Child.{Child}
 use Rattle.grammar.specs.declared.moves.Went.{Went}
 use Rattle.grammar.specs.Moves.{Under, Step, to, place, keysOf, Move, walk}
-use Rattle.grammar.specs.Said.{ChildOf}
+use Rattle.grammar.specs.Said.{ChildOf, went}
 use Rattle.checker.specs.declared.row.Row.{Row}
 use Rattle.checker.specs.declared.text.Used.{Used}
 use Rattle.checker.specs.Rows.{rowAt}
-use Rattle.checker.specs.Program.{own}
+use Rattle.checker.specs.Program.{own, ownMove}
 
 -- ---- the program
 
@@ -54,6 +54,12 @@ pub record Comes (x : Step) (r : Went) : Type 0 where
 pub record Goes (s : List ℕ) (m : Move) (p : ℕ) (r : Went) : Type 0 where
   pub good : r .kind ≡ 0 → (b : Under) (σ : ℕ) → keysOf (b .want) ≡ [] → place (walk s b σ m p) ≡ some (r .at)
   pub bad : ¬ (r .kind ≡ 0) → (b : Under) (σ : ℕ) → keysOf (b .want) ≡ [] → place (walk s b σ m p) ≡ none
+
+-- `r` is past the sign of an item whose key ends at p: kind 0 for `=`, 1 for `:`, more for none
+pub record SignBy (s : List ℕ) (p : ℕ) (r : Went) : Type 0 where
+  pub equals : r .kind ≡ 0 → Goes s (ownMove 2) p (went 0 (r .at))
+  pub colon : r .kind ≡ 1 → Goes s (ownMove 2) p (went 1 p) × Goes s (ownMove 3) p (went 0 (r .at))
+  pub none : ¬ (r .kind ≤ 1) → Goes s (ownMove 2) p (went 1 p) × Goes s (ownMove 3) p (went 1 p)
 
 -- ---- rows
 

@@ -17,8 +17,9 @@ use Rattle.grammar.specs.Published.{Depth, Laid, Rule}
 use Rattle.checker.specs.Rows.{rowAt, rows, recAt}
 use Rattle.checker.specs.Family.{Chain}
 use Rattle.checker.specs.declared.single.Look.{Look}
+use Rattle.checker.specs.declared.node.Left.{Left}
 use Rattle.checker.specs.Leaf.{kindsBy, isGrown, readAs, Spelt}
-use Rattle.checker.specs.Lay.{coded, depthsAt}
+use Rattle.checker.specs.Lay.{coded, depthsAt, Operates}
 use Rattle.checker.specs.Texts.{Sanes, Spelts}
 
 -- what the code of a text asks for at the row i
@@ -79,6 +80,14 @@ pub record LeftAt (s t : List ℕ) (i l : ℕ) (lines : Bool) (r : Bool) : Type 
   pub kind : r ≡ true → T (has (kindsBy 0) ((rowAt t l) .kind))
   pub no : r ≡ false → (rowAt t l) .start ≡ (rowAt t i) .start → (rowAt t l) .start < (rowAt t l) .end → ((left : ℕ) → (rowAt t i) .kind ≡ kindOf (followAt s (under left lines anExpression) ((rowAt t l) .end)))
       → tightOf ((rowAt t i) .kind) ≤ holdOf ((rowAt t l) .kind) → T (has (kindsBy 0) ((rowAt t l) .kind)) → ⊥
+
+abbrev pub noLeft : Left
+noLeft = record { good = false; end = 0 }
+
+-- `r` says the same; its end is that of the binary operator where one follows, else the operand's
+pub record LeftTo (s t : List ℕ) (i l : ℕ) (lines : Bool) (r : Left) : Type 0 where
+  pub left : LeftAt s t i l lines (r .good)
+  pub operates : r .good ≡ true → ¬ (r .end ≡ (rowAt t l) .end) → Operates s t i lines ((rowAt t l) .end) (r .end)
 
 -- `r` says whether the rule holds at the row i, of any kind, over the children that its counts give; then their depths are put down
 pub record NodeBy (s text t : List ℕ) (i : ℕ) (D D′ : List ℕ) (r : Bool) : Type 0 where

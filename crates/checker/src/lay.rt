@@ -16,7 +16,7 @@ ghost use Rattle.checker.specs.Lay.{EndsAt, Laying, LaidBy};
 const ITEMS: u8 = 7;
 
 // Whether the i-th row ends at q with a flag, and no child of it is left.
-fn ends(table: &[u16], i: usize, j: usize, q: usize, flag: usize) -> bool
+pub fn ends(table: &[u16], i: usize, j: usize, q: usize, flag: usize) -> bool
     requires { ⌜ 7 * i + 7 ≤ length (now table) ⌝ }
     ensures { λ r. ⌜ EndsAt (now (table .entry)) i j q flag r ⌝ }
 {

@@ -6,6 +6,7 @@ use crate::text::columns;
 use lexis::utf8::first_bad;
 ghost use Rattle.checker.specs.Check.{Rooted, Ready, Walking, Checks};
 
+mod direct;
 mod family;
 mod kinds;
 mod lay;
@@ -98,32 +99,32 @@ fn roomed(source: &[u8], table: &[u16], text: &[u8], n: usize) -> bool
     ensures { λ r. ⌜ Checks (now (source .entry)) (now (table .entry)) (now (text .entry)) r ⌝ }
 {
     if n <= FEW {
-        let mut marks = [0u16; 512];
+        let mut marks = [1u16; 512];
         let mut depths = [0u8; 512];
-        let mut keys = [0u16; 2048];
+        let mut keys = [1u16; 2048];
         return walk(source, table, text, n, &mut marks, &mut depths, &mut keys);
     }
     if n <= SOME {
-        let mut marks = [0u16; 2048];
+        let mut marks = [1u16; 2048];
         let mut depths = [0u8; 2048];
-        let mut keys = [0u16; 8192];
+        let mut keys = [1u16; 8192];
         return walk(source, table, text, n, &mut marks, &mut depths, &mut keys);
     }
     if n <= MANY {
-        let mut marks = [0u16; 6144];
+        let mut marks = [1u16; 6144];
         let mut depths = [0u8; 6144];
-        let mut keys = [0u16; 24576];
+        let mut keys = [1u16; 24576];
         return walk(source, table, text, n, &mut marks, &mut depths, &mut keys);
     }
     if n <= MOST {
-        let mut marks = [0u16; 18432];
+        let mut marks = [1u16; 18432];
         let mut depths = [0u8; 18432];
-        let mut keys = [0u16; 73728];
+        let mut keys = [1u16; 73728];
         return walk(source, table, text, n, &mut marks, &mut depths, &mut keys);
     }
-    let mut marks = [0u16; 65535];
+    let mut marks = [1u16; 65535];
     let mut depths = [0u8; 65535];
-    let mut keys = [0u16; 262140];
+    let mut keys = [1u16; 262140];
     walk(source, table, text, n, &mut marks, &mut depths, &mut keys)
 }
 

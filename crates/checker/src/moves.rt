@@ -17,7 +17,7 @@ ghost use mathlib.Core.List.{[], _∷_};
 ghost use Rattle.grammar.specs.Moves.{then, skip, opening, stopping};
 ghost use Rattle.checker.specs.Program.{ownMove};
 ghost use Rattle.checker.specs.Leaf.{GoneAt};
-ghost use Rattle.checker.specs.LeafMore.{Past, Comes, Goes};
+ghost use Rattle.checker.specs.LeafMore.{Past, Comes, Goes, SignBy};
 
 // Past a token from p to e, which is p where it does not stand.
 fn past(p: usize, e: usize) -> Went
@@ -62,6 +62,22 @@ fn colon(s: &[u8], p: usize) -> Went
         return g;
     }
     past(at, mark_end(s, at, 58))
+}
+
+// Past the sign of an item whose key ends at p: kind 0 for `=`, 1 for `:`, 2 for none.
+pub fn sign(s: &[u8], p: usize) -> Went
+    ensures { λ r. ⌜ SignBy (now (s .entry)) p r ⌝ }
+{
+    let e = equals(s, p);
+    if e.kind == 0 {
+        return e;
+    }
+    let c = colon(s, p);
+    let at = c.at;
+    if c.kind == 0 {
+        return refused(1, at);
+    }
+    refused(2, p)
 }
 
 // Past what ends an item at p, and any trivia behind it.

@@ -1,4 +1,6 @@
 // The rule at one row.
+use crate::direct::item;
+use crate::direct::operator;
 use crate::family::family;
 use crate::kinds::first_at;
 use crate::kinds::is_grown;
@@ -11,7 +13,7 @@ use crate::text::string;
 use crate::texts::texts;
 use grammar::kinds::Kind;
 use grammar::kinds::tight;
-use grammar::picks::follow;
+use grammar::picks::next_at;
 use lexis::heredoc::opener_at;
 ghost use mathlib.Core.Path.{_≡_};
 ghost use mathlib.Core.Bool.{true, false, cond};
@@ -21,7 +23,7 @@ ghost use lib.ListN.{length, getD};
 ghost use Rattle.checker.specs.Rows.{rowAt};
 ghost use Rattle.checker.specs.Family.{Linked};
 ghost use Rattle.checker.specs.Leaf.{isGrown};
-ghost use Rattle.checker.specs.Node.{NoText, Heading, Noding, RuleBy, LeftAt, NodeBy};
+ghost use Rattle.checker.specs.Node.{NoText, Heading, Noding, RuleBy, noLeft, LeftTo, NodeBy};
 
 // What is wanted where an expression stands.
 const EXPRESSION: u8 = 0;
@@ -124,27 +126,46 @@ fn heredoc(
     )
 }
 
+// Whether a row may be a left operand, and where the binary operator behind it ends; its own end where none stands there.
+pub struct Left {
+    pub good: bool,
+    pub end: usize,
+}
+
+fn no_left() -> Left
+    ensures { λ r. ⌜ r ≡ noLeft ⌝ }
+{
+    Left {
+        good: false,
+        end: 0,
+    }
+}
+
 // Whether the l-th row may be the left operand of the i-th, which is an operator, a conditional or a traversal.
-fn left_at(s: &[u8], table: &[u16], i: usize, l: usize, lines: bool) -> bool
+fn left_at(s: &[u8], table: &[u16], i: usize, l: usize, lines: bool) -> Left
     requires { ⌜ (7 * i + 7 ≤ length (now table)) × (7 * l + 7 ≤ length (now table)) ⌝ }
-    ensures { λ r. ⌜ LeftAt (now (s .entry)) (now (table .entry)) i l lines r ⌝ }
+    ensures { λ r. ⌜ LeftTo (now (s .entry)) (now (table .entry)) i l lines r ⌝ }
 {
     let start = table[7 * l + 2];
     if start != table[7 * i + 2] {
-        return false;
+        return no_left();
     }
     if table[7 * l + 3] <= start {
-        return false;
+        return no_left();
     }
     let kind = table[7 * i];
     let operand = table[7 * l];
     if !groups(tight(kind) as usize, operand, false) {
-        return false;
+        return no_left();
     }
     if !fits(EXPRESSION, operand) {
-        return false;
+        return no_left();
     }
-    follow(s, wide(table[7 * l + 3]), lines) == kind
+    let h = next_at(s, wide(table[7 * l + 3]), lines);
+    Left {
+        good: h.kind == kind,
+        end: h.end,
+    }
 }
 
 // A node that grows from its left operand: an operator, a conditional or a traversal.
@@ -166,10 +187,16 @@ fn grown(
         return false;
     }
     let lines = multi_line(own);
-    if !left_at(s, table, i, first, lines) {
+    let x = left_at(s, table, i, first, lines);
+    if !x.good {
         return false;
     }
     depths[first] = own;
+    let next = wide(marks[first]);
+    let end = wide(table[7 * first + 3]);
+    if x.end != end {
+        return operator(s, table, i, marks, depths, next, x.end, own, lines);
+    }
     lay(
         s,
         table,
@@ -177,8 +204,8 @@ fn grown(
         marks,
         depths,
         keys,
-        wide(marks[first]),
-        wide(table[7 * first + 3]),
+        next,
+        end,
         levels(own),
         lines,
     )
@@ -210,6 +237,9 @@ fn headed(
     }
     if !first_at(s, kind, start, lines) {
         return false;
+    }
+    if kind == Kind::ITEM {
+        return item(s, table, i, marks, depths, first, start, own);
     }
     lay(
         s,

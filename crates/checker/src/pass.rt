@@ -11,7 +11,7 @@ ghost use mathlib.Core.Bool.{cond};
 ghost use Prim.Native.Nat.{_+_, _*_, _≤_};
 ghost use lib.ListN.{length};
 ghost use Rattle.grammar.specs.Moves.{lone};
-ghost use Rattle.checker.specs.Lay.{SuitsAt, Meeting, MetAt, noPass, Passing, PassedBy};
+ghost use Rattle.checker.specs.Lay.{SuitsAt, Seating, KidBy, Meeting, MetAt, noPass, Passing, PassedBy};
 
 // What is wanted where an item stands.
 const ITEM: u8 = 4;
@@ -47,6 +47,30 @@ fn suits(table: &[u16], j: usize, at: usize, bound: usize, want: u8) -> bool
         return false;
     }
     fits(want, kind)
+}
+
+// Whether the j-th row, a child of the i-th that is no item, suits its place. Then its depth is put down.
+pub fn kid(
+    table: &[u16],
+    i: usize,
+    depths: &mut [u8],
+    j: usize,
+    at: usize,
+    bound: usize,
+    want: u8,
+    depth: u8,
+) -> bool
+    requires { ⌜ Seating (now table) i (now depths) j ⌝ }
+    ensures { λ r. ⌜ KidBy (now (table .entry)) i (now (depths .entry)) (now (depths .exit)) j at bound want depth r ⌝ }
+{
+    if j == i {
+        return false;
+    }
+    if !suits(table, j, at, bound, want) {
+        return false;
+    }
+    depths[j] = depth;
+    true
 }
 
 // Of an item that starts at p: whether its key is one of the n in the slots of `keys`. Where it stands alone, and so may be compared, it is kept there.

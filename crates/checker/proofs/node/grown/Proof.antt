@@ -20,78 +20,70 @@ use Rattle.checker.proofs.node.left_at.Reads as left-at-reads
 use Rattle.checker.proofs.node.levels.Reads as levels-reads
 use Rattle.checker.proofs.node.multi_line.Reads as multi-line-reads
 use Rattle.checker.proofs.rows.wide.Reads as wide-reads
+use Rattle.checker.proofs.Directs.{operator-laid}
 
--- src/node.rt:149:9
 returns : tie.Need-returns
-returns c = grown-none _ _ _ _ _ _ _ _ ((c .before .before .before .before .before .before .before .pre .2)) ((c .if1 .taken))
+returns c = grown-none _ _ _ _ _ _ _ _ (((c .before .before .before .before .before .before .before .pre .2))) (((c .if1 .taken)))
 
--- src/node.rt:151:9
 multi-line-requires : tie.Need-multi-line-requires
 multi-line-requires c κs = search needs
 
--- src/node.rt:152:9
 left-at-requires : tie.Need-left-at-requires
-left-at-requires c κs = let z = (chain-le _ _ ((c .before .before .before .before .before .before .before .before .pre .1 .js)) _ ((c .before .before .before .before .before .before .before .before .pre .1 .chain))) in omega (arith, (c .before .before .before .before .before .before .before .before .pre .0 .within), (c .before .if1 .left), z)
+left-at-requires c κs = let z = (chain-le _ _ (((c .before .before .before .before .before .before .before .before .pre .1 .js))) _ (((c .before .before .before .before .before .before .before .before .pre .1 .chain)))) in omega (arith, ((c .before .before .before .before .before .before .before .before .pre .0 .within)), ((c .before .if1 .left)), z)
 
--- src/node.rt:153:9
 returns-2 : tie.Need-returns-2
-returns-2 c = grown-left-no _ _ _ _ _ _ _ _ ((c .before .before .before .before .before .before .before .before .before .before .pre .2)) ((c .before .before .before .if1 .left)) (chain-le _ _ ((c .before .before .before .before .before .before .before .before .before .before .pre .1 .js)) _ ((c .before .before .before .before .before .before .before .before .before .before .pre .1 .chain))) (not-true _ ((c .if2 .taken))) (left-as ((c .before .before .multi-line .ensures)) ((c .before .left-at .ensures)))
+returns-2 c = grown-left-no _ _ _ _ _ _ _ _ (((c .before .before .before .before .before .before .before .before .before .before .before .pre .2))) (((c .before .before .before .before .if1 .left))) (chain-le _ _ (((c .before .before .before .before .before .before .before .before .before .before .before .pre .1 .js))) _ (((c .before .before .before .before .before .before .before .before .before .before .before .pre .1 .chain)))) (not-true _ (((c .if2 .taken)))) (left-as (((c .before .before .before .multi-line .ensures))) (((c .before .before .left-at .ensures .left))))
 
--- src/node.rt:155:5
 slice-write-depths : tie.Need-slice-write-depths
-slice-write-depths c = let z = (chain-le _ _ ((c .before .before .before .before .before .before .before .before .before .before .pre .1 .js)) _ ((c .before .before .before .before .before .before .before .before .before .before .pre .1 .chain))) in omega (arith, (c .before .before .before .before .before .before .before .before .before .before .pre .0 .deep), (c .before .before .before .if1 .left), z)
+slice-write-depths c = let z = (chain-le _ _ (((c .before .before .before .before .before .before .before .before .before .before .before .pre .1 .js))) _ (((c .before .before .before .before .before .before .before .before .before .before .before .pre .1 .chain)))) in omega (arith, ((c .before .before .before .before .before .before .before .before .before .before .before .pre .0 .deep)), ((c .before .before .before .before .if1 .left)), z)
 
--- src/node.rt:163:14
 mul-wide : tie.Need-mul-wide
-mul-wide c = let z = (chain-le _ _ ((c .before .before .before .before .before .before .before .before .before .before .before .before .pre .1 .js)) _ ((c .before .before .before .before .before .before .before .before .before .before .before .before .pre .1 .chain))) in omega (arith, (c .before .before .before .before .before .before .before .before .before .before .before .before .pre .0 .within), (c .before .before .before .before .before .if1 .left), z)
+mul-wide c = let z = (chain-le _ _ (c .before .before .before .before .before .before .before .before .before .before .before .pre .1 .js) _ (c .before .before .before .before .before .before .before .before .before .before .before .pre .1 .chain)) in omega (arith, (c .before .before .before .before .before .before .before .before .before .before .before .pre .0 .within), (c .before .before .before .before .before .before .before .before .before .before .before .pre .0 .marked), (c .before .before .before .before .if1 .left), z)
 
--- src/node.rt:163:14
 shared-slice-read-wide : tie.Need-shared-slice-read-wide
-shared-slice-read-wide c = let z = (chain-le _ _ ((c .before .before .before .before .before .before .before .before .before .before .before .before .before .pre .1 .js)) _ ((c .before .before .before .before .before .before .before .before .before .before .before .before .before .pre .1 .chain))) in omega (arith, (c .before .before .before .before .before .before .before .before .before .before .before .before .before .pre .0 .marked), (c .before .before .before .before .before .before .if1 .left), z)
+shared-slice-read-wide c = let z = (chain-le _ _ (c .before .before .before .before .before .before .before .before .before .before .before .before .pre .1 .js) _ (c .before .before .before .before .before .before .before .before .before .before .before .before .pre .1 .chain)) in omega (arith, (c .before .before .before .before .before .before .before .before .before .before .before .before .pre .0 .within), (c .before .before .before .before .before .before .before .before .before .before .before .before .pre .0 .marked), (c .before .before .before .before .before .if1 .left), z)
 
--- src/node.rt:163:9
 wide-requires : tie.Need-wide-requires
 wide-requires c κs = search needs
 
--- src/node.rt:164:20
 mul-wide-2 : tie.Need-mul-wide-2
-mul-wide-2 c = let z = (chain-le _ _ ((c .before .before .before .before .before .before .before .before .before .before .before .before .before .before .pre .1 .js)) _ ((c .before .before .before .before .before .before .before .before .before .before .before .before .before .before .pre .1 .chain))) in omega (arith, (c .before .before .before .before .before .before .before .before .before .before .before .before .before .before .pre .0 .within), (c .before .before .before .before .before .before .before .if1 .left), z)
+mul-wide-2 c = let z = (chain-le _ _ (c .before .before .before .before .before .before .before .before .before .before .before .before .before .pre .1 .js) _ (c .before .before .before .before .before .before .before .before .before .before .before .before .before .pre .1 .chain)) in omega (arith, (c .before .before .before .before .before .before .before .before .before .before .before .before .before .pre .0 .within), (c .before .before .before .before .before .before .before .before .before .before .before .before .before .pre .0 .marked), (c .before .before .before .before .before .before .if1 .left), z)
 
--- src/node.rt:164:20
 add-wide : tie.Need-add-wide
-add-wide c = let z = (chain-le _ _ ((c .before .before .before .before .before .before .before .before .before .before .before .before .before .before .pre .1 .js)) _ ((c .before .before .before .before .before .before .before .before .before .before .before .before .before .before .pre .1 .chain))) in omega (arith, (c .before .before .before .before .before .before .before .before .before .before .before .before .before .before .pre .0 .within), (c .before .before .before .before .before .before .before .if1 .left), z)
+add-wide c = let z = (chain-le _ _ (c .before .before .before .before .before .before .before .before .before .before .before .before .before .pre .1 .js) _ (c .before .before .before .before .before .before .before .before .before .before .before .before .before .pre .1 .chain)) in omega (arith, (c .before .before .before .before .before .before .before .before .before .before .before .before .before .pre .0 .within), (c .before .before .before .before .before .before .before .before .before .before .before .before .before .pre .0 .marked), (c .before .before .before .before .before .before .if1 .left), z)
 
--- src/node.rt:164:14
 mul-wide-3 : tie.Need-mul-wide-3
-mul-wide-3 c = let z = (chain-le _ _ ((c .before .before .before .before .before .before .before .before .before .before .before .before .before .before .pre .1 .js)) _ ((c .before .before .before .before .before .before .before .before .before .before .before .before .before .before .pre .1 .chain))) in omega (arith, (c .before .before .before .before .before .before .before .before .before .before .before .before .before .before .pre .0 .within), (c .before .before .before .before .before .before .before .if1 .left), z)
+mul-wide-3 c = let z = (chain-le _ _ (c .before .before .before .before .before .before .before .before .before .before .before .before .before .pre .1 .js) _ (c .before .before .before .before .before .before .before .before .before .before .before .before .before .pre .1 .chain)) in omega (arith, (c .before .before .before .before .before .before .before .before .before .before .before .before .before .pre .0 .within), (c .before .before .before .before .before .before .before .before .before .before .before .before .before .pre .0 .marked), (c .before .before .before .before .before .before .if1 .left), z)
 
--- src/node.rt:164:14
 shared-slice-read-wide-2 : tie.Need-shared-slice-read-wide-2
-shared-slice-read-wide-2 c = let z = (chain-le _ _ ((c .before .before .before .before .before .before .before .before .before .before .before .before .before .before .before .pre .1 .js)) _ ((c .before .before .before .before .before .before .before .before .before .before .before .before .before .before .before .pre .1 .chain))) in omega (arith, (c .before .before .before .before .before .before .before .before .before .before .before .before .before .before .before .pre .0 .within), (c .before .before .before .before .before .before .before .before .if1 .left), z)
+shared-slice-read-wide-2 c = let z = (chain-le _ _ (c .before .before .before .before .before .before .before .before .before .before .before .before .before .before .pre .1 .js) _ (c .before .before .before .before .before .before .before .before .before .before .before .before .before .before .pre .1 .chain)) in omega (arith, (c .before .before .before .before .before .before .before .before .before .before .before .before .before .before .pre .0 .within), (c .before .before .before .before .before .before .before .before .before .before .before .before .before .before .pre .0 .marked), (c .before .before .before .before .before .before .before .if1 .left), z)
 
--- src/node.rt:164:9
 wide-requires-2 : tie.Need-wide-requires-2
 wide-requires-2 c κs = search needs
 
--- src/node.rt:165:9
+operator-requires : tie.Need-operator-requires
+operator-requires c κs = let z = (chain-le _ _ (c .before .before .before .before .before .before .before .before .before .before .before .before .before .before .before .before .before .before .pre .1 .js) _ (c .before .before .before .before .before .before .before .before .before .before .before .before .before .before .before .before .before .before .pre .1 .chain)) in let y = next-of _ _ (c .before .before .before .before .before .before .before .before .before .before .before .before .before .before .before .before .before .before .pre .1 .js) _ (c .before .before .before .before .before .before .before .before .before .before .before .before .before .before .before .before .before .before .pre .1 .chain) (omega (arith, z, (c .before .before .before .before .before .before .before .before .before .before .before .if1 .left))) in (record { within = (c .before .before .before .before .before .before .before .before .before .before .before .before .before .before .before .before .before .before .pre .0 .within); marked = (c .before .before .before .before .before .before .before .before .before .before .before .before .before .before .before .before .before .before .pre .0 .marked); deep = omega (arith, length-set (c .before .before .before .before .before .before .before .before .before .before .before .before .before .before .before .before .before .before .args .depths .now) (c .before .before .before .before .before .before .before .before .before .before .before .before .before .before .before .before .before .before .args .first) (c .before .before .before .before .before .before .before .before .before .before .before .before .before .before .before .before .before .before .args .own), (c .before .before .before .before .before .before .before .before .before .before .before .before .before .before .before .before .before .before .pre .0 .deep)); js = y .rest; chain = subst (Chain _ _ (y .rest)) (sym (c .before .before .before .before .before .wide .ensures .0)) (y .chain) }, (c .before .before .before .before .before .before .before .before .before .before .multi-line .ensures), left-known (c .before .before .before .before .before .before .before .before .before .before .before .before .before .before .before .before .before .before .args .s .now) (c .before .before .before .before .before .before .before .before .before .before .before .before .before .before .before .before .before .before .args .table .now) (c .before .before .before .before .before .before .before .before .before .before .before .before .before .before .before .before .before .before .args .i) (c .before .before .before .before .before .before .before .before .before .before .before .before .before .before .before .before .before .before .args .own) [] [] [] (c .before .before .before .before .before .before .before .before .before .before .before .before .before .before .before .before .before .before .args .first) (c .before .before .before .before .before .before .before .before .before .before .before .before .before .before .before .before .before .before .pre .2) (c .before .before .before .before .before .before .before .before .before .before .before .if1 .left) z (not-false _ (c .before .before .before .before .before .before .before .if2 .left)) (left-as (c .before .before .before .before .before .before .before .before .before .before .multi-line .ensures) (c .before .before .before .before .before .before .before .before .before .left-at .ensures .left)))
+
+same-length : tie.Need-same-length
+same-length c = omega (arith, (operator-laid (c .before .before .before .before .before .before .before .before .before .before .before .before .before .multi-line .ensures) (c .before .before .before .before .before .before .before .before .before .before .before .before .left-at .ensures) (not-false _ (c .before .before .before .before .before .before .before .before .before .before .if2 .left)) (c .before .before .before .before .before .before .wide2 .ensures .0) (c .before .before .before .before .if3 .taken) (c .before .before .operator .ensures)) .long, length-set (c .before .before .before .before .before .before .before .before .before .before .before .before .before .before .before .before .before .before .before .before .before .args .depths .now) (c .before .before .before .before .before .before .before .before .before .before .before .before .before .before .before .before .before .before .before .before .before .args .first) (c .before .before .before .before .before .before .before .before .before .before .before .before .before .before .before .before .before .before .before .before .before .args .own))
+
+returns-3 : tie.Need-returns-3
+returns-3 c = let z = (chain-le _ _ (c .before .before .before .before .before .before .before .before .before .before .before .before .before .before .before .before .before .before .before .before .before .pre .1 .js) _ (c .before .before .before .before .before .before .before .before .before .before .before .before .before .before .before .before .before .before .before .before .before .pre .1 .chain)) in let y = next-of _ _ (c .before .before .before .before .before .before .before .before .before .before .before .before .before .before .before .before .before .before .before .before .before .pre .1 .js) _ (c .before .before .before .before .before .before .before .before .before .before .before .before .before .before .before .before .before .before .before .before .before .pre .1 .chain) (omega (arith, z, (c .before .before .before .before .before .before .before .before .before .before .before .before .before .before .if1 .left))) in grown-by _ _ _ _ _ _ _ _ (c .before .before .before .before .before .before .before .before .before .before .before .before .before .before .before .before .before .before .before .before .before .pre .2) (c .before .before .before .before .before .before .before .before .before .before .before .before .before .before .if1 .left) z (not-false _ (c .before .before .before .before .before .before .before .before .before .before .if2 .left)) (left-as (c .before .before .before .before .before .before .before .before .before .before .before .before .before .multi-line .ensures) (c .before .before .before .before .before .before .before .before .before .before .before .before .left-at .ensures .left)) (omega (arith, z, (c .before .before .before .before .before .before .before .before .before .before .before .before .before .before .before .before .before .before .before .before .before .pre .0 .deep))) (y .up) (c .before .before .before .before .before .before .before .before .wide .ensures .0) (c .before .before .before .before .before .before .wide2 .ensures .0) (operator-laid (c .before .before .before .before .before .before .before .before .before .before .before .before .before .multi-line .ensures) (c .before .before .before .before .before .before .before .before .before .before .before .before .left-at .ensures) (not-false _ (c .before .before .before .before .before .before .before .before .before .before .if2 .left)) (c .before .before .before .before .before .before .wide2 .ensures .0) (c .before .before .before .before .if3 .taken) (c .before .before .operator .ensures))
+
 levels-requires : tie.Need-levels-requires
 levels-requires c κs = search needs
 
--- src/node.rt:156:5
 lay-requires : tie.Need-lay-requires
-lay-requires c κs = let z = (chain-le _ _ ((c .before .before .before .before .before .before .before .before .before .before .before .before .before .before .before .before .before .pre .1 .js)) _ ((c .before .before .before .before .before .before .before .before .before .before .before .before .before .before .before .before .before .pre .1 .chain))) in let y = next-of _ _ ((c .before .before .before .before .before .before .before .before .before .before .before .before .before .before .before .before .before .pre .1 .js)) _ ((c .before .before .before .before .before .before .before .before .before .before .before .before .before .before .before .before .before .pre .1 .chain)) (omega (arith, z, (c .before .before .before .before .before .before .before .before .before .before .if1 .left))) in record { within = (c .before .before .before .before .before .before .before .before .before .before .before .before .before .before .before .before .before .pre .0 .within); marked = (c .before .before .before .before .before .before .before .before .before .before .before .before .before .before .before .before .before .pre .0 .marked); deep = omega (arith, length-set ((c .before .before .before .before .before .before .before .before .before .before .before .before .before .before .before .before .before .args .depths .now)) ((c .before .before .before .before .before .before .before .before .before .before .before .before .before .before .before .before .before .args .first)) ((c .before .before .before .before .before .before .before .before .before .before .before .before .before .before .before .before .before .args .own)), (c .before .before .before .before .before .before .before .before .before .before .before .before .before .before .before .before .before .pre .0 .deep)); keyed = (c .before .before .before .before .before .before .before .before .before .before .before .before .before .before .before .before .before .pre .0 .keyed); small = (c .before .before .before .before .before .before .before .before .before .before .before .before .before .before .before .before .before .pre .0 .small); few = (c .levels .ensures .1); js = y .rest; chain = subst (Chain _ _ (y .rest)) (sym ((c .before .before .before .wide .ensures .0))) (y .chain); known = left-known ((c .before .before .before .before .before .before .before .before .before .before .before .before .before .before .before .before .before .args .s .now)) ((c .before .before .before .before .before .before .before .before .before .before .before .before .before .before .before .before .before .args .table .now)) ((c .before .before .before .before .before .before .before .before .before .before .before .before .before .before .before .before .before .args .i)) ((c .before .before .before .before .before .before .before .before .before .before .before .before .before .before .before .before .before .args .own)) [] [] [] ((c .before .before .before .before .before .before .before .before .before .before .before .before .before .before .before .before .before .args .first)) ((c .before .before .before .before .before .before .before .before .before .before .before .before .before .before .before .before .before .pre .2)) ((c .before .before .before .before .before .before .before .before .before .before .if1 .left)) z (not-false _ ((c .before .before .before .before .before .before .before .if2 .left))) (left-as ((c .before .before .before .before .before .before .before .before .before .multi-line .ensures)) ((c .before .before .before .before .before .before .before .before .left-at .ensures))) }
+lay-requires c κs = let z = (chain-le _ _ (((c .before .before .before .before .before .before .before .before .before .before .before .before .before .before .before .before .before .before .before .before .pre .1 .js))) _ (((c .before .before .before .before .before .before .before .before .before .before .before .before .before .before .before .before .before .before .before .before .pre .1 .chain)))) in let y = next-of _ _ (((c .before .before .before .before .before .before .before .before .before .before .before .before .before .before .before .before .before .before .before .before .pre .1 .js))) _ (((c .before .before .before .before .before .before .before .before .before .before .before .before .before .before .before .before .before .before .before .before .pre .1 .chain))) (omega (arith, z, ((c .before .before .before .before .before .before .before .before .before .before .before .before .before .if1 .left)))) in record { within = ((c .before .before .before .before .before .before .before .before .before .before .before .before .before .before .before .before .before .before .before .before .pre .0 .within)); marked = ((c .before .before .before .before .before .before .before .before .before .before .before .before .before .before .before .before .before .before .before .before .pre .0 .marked)); deep = omega (arith, length-set (((c .before .before .before .before .before .before .before .before .before .before .before .before .before .before .before .before .before .before .before .before .args .depths .now))) (((c .before .before .before .before .before .before .before .before .before .before .before .before .before .before .before .before .before .before .before .before .args .first))) (((c .before .before .before .before .before .before .before .before .before .before .before .before .before .before .before .before .before .before .before .before .args .own))), ((c .before .before .before .before .before .before .before .before .before .before .before .before .before .before .before .before .before .before .before .before .pre .0 .deep))); keyed = ((c .before .before .before .before .before .before .before .before .before .before .before .before .before .before .before .before .before .before .before .before .pre .0 .keyed)); small = ((c .before .before .before .before .before .before .before .before .before .before .before .before .before .before .before .before .before .before .before .before .pre .0 .small)); few = ((c .levels .ensures .1)); js = y .rest; chain = subst (Chain _ _ (y .rest)) (sym (((c .before .before .before .before .before .before .before .wide .ensures .0)))) (y .chain); known = left-known (((c .before .before .before .before .before .before .before .before .before .before .before .before .before .before .before .before .before .before .before .before .args .s .now))) (((c .before .before .before .before .before .before .before .before .before .before .before .before .before .before .before .before .before .before .before .before .args .table .now))) (((c .before .before .before .before .before .before .before .before .before .before .before .before .before .before .before .before .before .before .before .before .args .i))) (((c .before .before .before .before .before .before .before .before .before .before .before .before .before .before .before .before .before .before .before .before .args .own))) [] [] [] (((c .before .before .before .before .before .before .before .before .before .before .before .before .before .before .before .before .before .before .before .before .args .first))) (((c .before .before .before .before .before .before .before .before .before .before .before .before .before .before .before .before .before .before .before .before .pre .2))) (((c .before .before .before .before .before .before .before .before .before .before .before .before .before .if1 .left))) z (not-false _ (((c .before .before .before .before .before .before .before .before .before .if2 .left)))) (left-as (((c .before .before .before .before .before .before .before .before .before .before .before .before .multi-line .ensures))) (((c .before .before .before .before .before .before .before .before .before .before .before .left-at .ensures .left)))) }
 
--- src/node.rt:134:1
-same-length : tie.Need-same-length
-same-length c = omega (arith, (c .before .before .before .before .lay .ensures .long), length-set ((c .before .before .before .before .before .before .before .before .before .before .before .before .before .before .before .before .before .before .before .before .before .before .args .depths .now)) ((c .before .before .before .before .before .before .before .before .before .before .before .before .before .before .before .before .before .before .before .before .before .before .args .first)) ((c .before .before .before .before .before .before .before .before .before .before .before .before .before .before .before .before .before .before .before .before .before .before .args .own)))
-
--- src/node.rt:134:1
 same-length-2 : tie.Need-same-length-2
-same-length-2 c = search needs
+same-length-2 c = omega (arith, ((c .before .before .before .before .lay .ensures .long)), length-set (((c .before .before .before .before .before .before .before .before .before .before .before .before .before .before .before .before .before .before .before .before .before .before .before .before .before .args .depths .now))) (((c .before .before .before .before .before .before .before .before .before .before .before .before .before .before .before .before .before .before .before .before .before .before .before .before .before .args .first))) (((c .before .before .before .before .before .before .before .before .before .before .before .before .before .before .before .before .before .before .before .before .before .before .before .before .before .args .own))))
 
--- src/node.rt:134:1
-returns-3 : tie.Need-returns-3
-returns-3 c = let z = (chain-le _ _ ((c .before .before .before .before .before .before .before .before .before .before .before .before .before .before .before .before .before .before .before .before .before .before .pre .1 .js)) _ ((c .before .before .before .before .before .before .before .before .before .before .before .before .before .before .before .before .before .before .before .before .before .before .pre .1 .chain))) in let y = next-of _ _ ((c .before .before .before .before .before .before .before .before .before .before .before .before .before .before .before .before .before .before .before .before .before .before .pre .1 .js)) _ ((c .before .before .before .before .before .before .before .before .before .before .before .before .before .before .before .before .before .before .before .before .before .before .pre .1 .chain)) (omega (arith, z, (c .before .before .before .before .before .before .before .before .before .before .before .before .before .before .before .if1 .left))) in grown-by _ _ _ _ _ _ _ _ ((c .before .before .before .before .before .before .before .before .before .before .before .before .before .before .before .before .before .before .before .before .before .before .pre .2)) ((c .before .before .before .before .before .before .before .before .before .before .before .before .before .before .before .if1 .left)) z (not-false _ ((c .before .before .before .before .before .before .before .before .before .before .before .before .if2 .left))) (left-as ((c .before .before .before .before .before .before .before .before .before .before .before .before .before .before .multi-line .ensures)) ((c .before .before .before .before .before .before .before .before .before .before .before .before .before .left-at .ensures))) (omega (arith, z, (c .before .before .before .before .before .before .before .before .before .before .before .before .before .before .before .before .before .before .before .before .before .before .pre .0 .deep))) (y .up) ((c .before .before .before .before .before .before .before .before .wide .ensures .0)) ((c .before .before .before .before .before .before .wide2 .ensures .0)) (laid-as refl ((c .before .before .before .before .before .levels .ensures .0)) ((c .before .before .before .before .before .before .before .before .before .before .before .before .before .before .multi-line .ensures)) ((c .before .before .before .before .lay .ensures)))
+same-length-3 : tie.Need-same-length-3
+same-length-3 c = search needs
+
+returns-4 : tie.Need-returns-4
+returns-4 c = let z = (chain-le _ _ (((c .before .before .before .before .before .before .before .before .before .before .before .before .before .before .before .before .before .before .before .before .before .before .before .before .before .pre .1 .js))) _ (((c .before .before .before .before .before .before .before .before .before .before .before .before .before .before .before .before .before .before .before .before .before .before .before .before .before .pre .1 .chain)))) in let y = next-of _ _ (((c .before .before .before .before .before .before .before .before .before .before .before .before .before .before .before .before .before .before .before .before .before .before .before .before .before .pre .1 .js))) _ (((c .before .before .before .before .before .before .before .before .before .before .before .before .before .before .before .before .before .before .before .before .before .before .before .before .before .pre .1 .chain))) (omega (arith, z, ((c .before .before .before .before .before .before .before .before .before .before .before .before .before .before .before .before .before .before .if1 .left)))) in grown-by _ _ _ _ _ _ _ _ (((c .before .before .before .before .before .before .before .before .before .before .before .before .before .before .before .before .before .before .before .before .before .before .before .before .before .pre .2))) (((c .before .before .before .before .before .before .before .before .before .before .before .before .before .before .before .before .before .before .if1 .left))) z (not-false _ (((c .before .before .before .before .before .before .before .before .before .before .before .before .before .before .if2 .left)))) (left-as (((c .before .before .before .before .before .before .before .before .before .before .before .before .before .before .before .before .before .multi-line .ensures))) (((c .before .before .before .before .before .before .before .before .before .before .before .before .before .before .before .before .left-at .ensures .left)))) (omega (arith, z, ((c .before .before .before .before .before .before .before .before .before .before .before .before .before .before .before .before .before .before .before .before .before .before .before .before .before .pre .0 .deep)))) (y .up) (((c .before .before .before .before .before .before .before .before .before .before .before .before .wide .ensures .0))) (((c .before .before .before .before .before .before .before .before .before .before .wide2 .ensures .0))) (laid-as refl (((c .before .before .before .before .before .levels .ensures .0))) (((c .before .before .before .before .before .before .before .before .before .before .before .before .before .before .before .before .before .multi-line .ensures))) (((c .before .before .before .before .lay .ensures))))
 
 pub grown-spec : {M : Type 1} → statement M
 grown-spec =
@@ -110,8 +102,11 @@ grown-spec =
     mul-wide-3
     shared-slice-read-wide-2
     wide-requires-2
+    operator-requires
+    same-length
+    returns-3
     levels-requires
     lay-requires
-    same-length
     same-length-2
-    returns-3)
+    same-length-3
+    returns-4)

@@ -1,3 +1,4 @@
+use native.Mathlib.Omega.{arith}
 use mathlib.Core.Path.{_≡_, refl, sym, ap, subst, _∙_}
 use borrow.Author.Tests.{not-true, not-false}
 use mathlib.Core.List.{[]}
@@ -16,77 +17,68 @@ use Rattle.checker.proofs.node.multi_line.Reads as multi-line-reads
 use Rattle.checker.proofs.rows.wide.Reads as wide-reads
 use Rattle.checker.proofs.single.single.Reads as single-reads
 
--- src/node.rt:202:22
 mul-kind : tie.Need-mul-kind
 mul-kind c = search needs
 
--- src/node.rt:202:16
 mul-kind-2 : tie.Need-mul-kind-2
 mul-kind-2 c = search needs
 
--- src/node.rt:202:16
 shared-slice-read-kind : tie.Need-shared-slice-read-kind
 shared-slice-read-kind c = search needs
 
--- src/node.rt:203:28
 mul-wide : tie.Need-mul-wide
 mul-wide c = search needs
 
--- src/node.rt:203:28
 add-wide : tie.Need-add-wide
 add-wide c = search needs
 
--- src/node.rt:203:22
 mul-wide-2 : tie.Need-mul-wide-2
 mul-wide-2 c = search needs
 
--- src/node.rt:203:22
 shared-slice-read-wide : tie.Need-shared-slice-read-wide
 shared-slice-read-wide c = search needs
 
--- src/node.rt:203:9
 wide-requires : tie.Need-wide-requires
 wide-requires c κs = search needs
 
--- src/node.rt:204:9
 multi-line-requires : tie.Need-multi-line-requires
 multi-line-requires c κs = search needs
 
--- src/node.rt:206:13
 single-requires : tie.Need-single-requires
 single-requires c κs = search needs
 
--- src/node.rt:208:13
 returns : tie.Need-returns
-returns c = single-as (c .before .before .if1 .taken) ((c .before .single .ensures .rule) (c .if2 .taken) _ (c .before .before .before .multi-line .ensures) _ _ _)
+returns c = single-as ((c .before .before .if1 .taken)) (((c .before .single .ensures .rule)) ((c .if2 .taken)) _ ((c .before .before .before .multi-line .ensures)) _ _ _)
 
--- src/node.rt:211:9
 first-at-requires : tie.Need-first-at-requires
 first-at-requires c κs = search needs
 
--- src/node.rt:212:9
 returns-2 : tie.Need-returns-2
-returns-2 c = head-no _ _ _ _ _ _ _ _ (c .before .before .before .before .before .before .before .before .before .before .before .before .before .pre .2) (not-true _ (c .if3 .taken)) (first-as (c .before .before .before .before .wide .ensures .0) (c .before .before .before .multi-line .ensures) (c .before .first-at .ensures))
+returns-2 c = head-no _ _ _ _ _ _ _ _ ((c .before .before .before .before .before .before .before .before .before .before .before .before .before .pre .2)) (not-true _ ((c .if3 .taken))) (first-as ((c .before .before .before .before .wide .ensures .0)) ((c .before .before .before .multi-line .ensures)) ((c .before .first-at .ensures)))
 
--- src/node.rt:223:9
+item-requires : tie.Need-item-requires
+item-requires c κs = (record { within = (c .before .before .before .before .before .before .before .before .before .before .before .before .before .before .before .pre .0 .within); marked = (c .before .before .before .before .before .before .before .before .before .before .before .before .before .before .before .pre .0 .marked); deep = (c .before .before .before .before .before .before .before .before .before .before .before .before .before .before .before .pre .0 .deep); js = (c .before .before .before .before .before .before .before .before .before .before .before .before .before .before .before .pre .1 .js); chain = (c .before .before .before .before .before .before .before .before .before .before .before .before .before .before .before .pre .1 .chain) }, (c .before .if4 .taken))
+
+same-length : tie.Need-same-length
+same-length c = omega (arith, (c .before .before .item .ensures .long))
+
+returns-3 : tie.Need-returns-3
+returns-3 c = head-by _ _ _ _ _ _ _ _ (c .before .before .before .before .before .before .before .before .before .before .before .before .before .before .before .before .before .before .pre .2) (c .before .before .before .before .before .before .before .before .before .before .before .before .before .before .before .before .before .before .pre .3) (not-false _ (c .before .before .before .before .before .if3 .left)) (first-as (c .before .before .before .before .before .before .before .before .before .wide .ensures .0) (c .before .before .before .before .before .before .before .before .multi-line .ensures) (c .before .before .before .before .before .before .first-at .ensures)) (laid-as (c .before .before .before .before .before .before .before .before .before .wide .ensures .0) refl refl (c .before .before .item .ensures))
+
 levels-requires : tie.Need-levels-requires
 levels-requires c κs = search needs
 
--- src/node.rt:214:5
 lay-requires : tie.Need-lay-requires
-lay-requires c κs = record { within = (c .before .before .before .before .before .before .before .before .before .before .before .before .before .before .before .before .pre .0 .within); marked = (c .before .before .before .before .before .before .before .before .before .before .before .before .before .before .before .before .pre .0 .marked); deep = (c .before .before .before .before .before .before .before .before .before .before .before .before .before .before .before .before .pre .0 .deep); keyed = (c .before .before .before .before .before .before .before .before .before .before .before .before .before .before .before .before .pre .0 .keyed); small = (c .before .before .before .before .before .before .before .before .before .before .before .before .before .before .before .before .pre .0 .small); few = (c .levels .ensures .1); js = (c .before .before .before .before .before .before .before .before .before .before .before .before .before .before .before .before .pre .1 .js); chain = (c .before .before .before .before .before .before .before .before .before .before .before .before .before .before .before .before .pre .1 .chain); known = head-known (c .before .before .before .before .before .before .before .before .before .before .before .before .before .before .before .before .args .s .now) (c .before .before .before .before .before .before .before .before .before .before .before .before .before .before .before .before .args .table .now) (c .before .before .before .before .before .before .before .before .before .before .before .before .before .before .before .before .args .i) (c .before .before .before .before .before .before .before .before .before .before .before .before .before .before .before .before .args .own) [] [] [] 0 (c .before .before .before .before .before .before .before .before .before .before .before .before .before .before .before .before .pre .2) (c .before .before .before .before .before .before .before .before .before .before .before .before .before .before .before .before .pre .3) (not-false _ (c .before .before .before .if3 .left)) (first-as (c .before .before .before .before .before .before .before .wide .ensures .0) (c .before .before .before .before .before .before .multi-line .ensures) (c .before .before .before .before .first-at .ensures)) }
+lay-requires c κs = record { within = ((c .before .before .before .before .before .before .before .before .before .before .before .before .before .before .before .before .before .pre .0 .within)); marked = ((c .before .before .before .before .before .before .before .before .before .before .before .before .before .before .before .before .before .pre .0 .marked)); deep = ((c .before .before .before .before .before .before .before .before .before .before .before .before .before .before .before .before .before .pre .0 .deep)); keyed = ((c .before .before .before .before .before .before .before .before .before .before .before .before .before .before .before .before .before .pre .0 .keyed)); small = ((c .before .before .before .before .before .before .before .before .before .before .before .before .before .before .before .before .before .pre .0 .small)); few = ((c .levels .ensures .1)); js = ((c .before .before .before .before .before .before .before .before .before .before .before .before .before .before .before .before .before .pre .1 .js)); chain = ((c .before .before .before .before .before .before .before .before .before .before .before .before .before .before .before .before .before .pre .1 .chain)); known = head-known ((c .before .before .before .before .before .before .before .before .before .before .before .before .before .before .before .before .before .args .s .now)) ((c .before .before .before .before .before .before .before .before .before .before .before .before .before .before .before .before .before .args .table .now)) ((c .before .before .before .before .before .before .before .before .before .before .before .before .before .before .before .before .before .args .i)) ((c .before .before .before .before .before .before .before .before .before .before .before .before .before .before .before .before .before .args .own)) [] [] [] 0 ((c .before .before .before .before .before .before .before .before .before .before .before .before .before .before .before .before .before .pre .2)) ((c .before .before .before .before .before .before .before .before .before .before .before .before .before .before .before .before .before .pre .3)) (not-false _ ((c .before .before .before .before .if3 .left))) (first-as ((c .before .before .before .before .before .before .before .before .wide .ensures .0)) ((c .before .before .before .before .before .before .before .multi-line .ensures)) ((c .before .before .before .before .before .first-at .ensures))) }
 
--- src/node.rt:188:1
-same-length : tie.Need-same-length
-same-length c = search needs
-
--- src/node.rt:188:1
 same-length-2 : tie.Need-same-length-2
 same-length-2 c = search needs
 
--- src/node.rt:188:1
-returns-3 : tie.Need-returns-3
-returns-3 c = head-by _ _ _ _ _ _ _ _ (c .before .before .before .before .before .before .before .before .before .before .before .before .before .before .before .before .before .before .before .before .before .pre .2) (c .before .before .before .before .before .before .before .before .before .before .before .before .before .before .before .before .before .before .before .before .before .pre .3) (not-false _ (c .before .before .before .before .before .before .before .before .if3 .left)) (first-as (c .before .before .before .before .before .before .before .before .before .before .before .before .wide .ensures .0) (c .before .before .before .before .before .before .before .before .before .before .before .multi-line .ensures) (c .before .before .before .before .before .before .before .before .before .first-at .ensures)) (laid-as (c .before .before .before .before .before .before .before .before .before .before .before .before .wide .ensures .0) (c .before .before .before .before .before .levels .ensures .0) (c .before .before .before .before .before .before .before .before .before .before .before .multi-line .ensures) (c .before .before .before .before .lay .ensures))
+same-length-3 : tie.Need-same-length-3
+same-length-3 c = search needs
+
+returns-4 : tie.Need-returns-4
+returns-4 c = head-by _ _ _ _ _ _ _ _ ((c .before .before .before .before .before .before .before .before .before .before .before .before .before .before .before .before .before .before .before .before .before .before .pre .2)) ((c .before .before .before .before .before .before .before .before .before .before .before .before .before .before .before .before .before .before .before .before .before .before .pre .3)) (not-false _ ((c .before .before .before .before .before .before .before .before .before .if3 .left))) (first-as ((c .before .before .before .before .before .before .before .before .before .before .before .before .before .wide .ensures .0)) ((c .before .before .before .before .before .before .before .before .before .before .before .before .multi-line .ensures)) ((c .before .before .before .before .before .before .before .before .before .before .first-at .ensures))) (laid-as ((c .before .before .before .before .before .before .before .before .before .before .before .before .before .wide .ensures .0)) ((c .before .before .before .before .before .levels .ensures .0)) ((c .before .before .before .before .before .before .before .before .before .before .before .before .multi-line .ensures)) ((c .before .before .before .before .lay .ensures)))
 
 pub headed-spec : {M : Type 1} → statement M
 headed-spec =
@@ -105,8 +97,11 @@ headed-spec =
     returns
     first-at-requires
     returns-2
+    item-requires
+    same-length
+    returns-3
     levels-requires
     lay-requires
-    same-length
     same-length-2
-    returns-3)
+    same-length-3
+    returns-4)
