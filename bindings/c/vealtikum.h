@@ -3,7 +3,7 @@
  * What the caller owes:
  * - Every pointer points to as many elements as the length behind it says. None is null, not even where the length is 0.
  * - What is written (nodes, text, place, count, used, from, length) overlaps nothing else that the call is given.
- * - 512 KiB of stack are free, and 1 MiB for vealtikum_check.
+ * - 1 MiB of stack is free.
  *
  * The functions keep nothing between calls and allocate nothing. They may run in several threads at once.
  *

@@ -4,14 +4,14 @@ use mathlib.Core.Path.{_≡_, refl, sym, ap, _∙_}
 use mathlib.Core.List.{List}
 use mathlib.Core.Bool.{Bool, true, false, cond, not, _||_}
 use native.Mathlib.Omega.{arith}
-use lib.ListN.{getD}
+use lib.ListN.{length, getD}
 use lib.Dec.{eqb, ltb}
 use borrow.Author.Tests.{eqb-true, eqb-false, ltb-true, ltb-false, not-true, not-false}
 use Rattle.lexis.specs.Keys.{among, sameKey}
 use Rattle.lexis.specs.RunLaws.{clash}
 use Rattle.index.specs.Mark.{markAt}
 use Rattle.index.specs.MarkLaws.{same-mark}
-use Rattle.index.specs.Index.{startIn, markIn, childIn, startsOf, starts, Path, here, on, Asks, Indexed}
+use Rattle.index.specs.Index.{startIn, markIn, childIn, startsOf, starts, Path, here, on, Indexed}
 
 -- a key among some, and none
 or-here : (x y : Bool) → x ≡ true → (x || y) ≡ true
@@ -35,6 +35,12 @@ among-no : (s y : List ℕ) (p n j : ℕ) → ((i : ℕ) → j ≤ i → i < j +
 unfolding among startsOf
 among-no s y p zero j h = refl
 among-no s y p (suc n) j h = rw (h j (omega arith) (omega arith)) (among-no s y p n (suc j) (λ i a b. h i (omega arith) (omega arith)))
+
+-- the slot j can be asked about the key at p, whose mark is m
+pub record Asks (s y : List ℕ) (j m p : ℕ) : Type 0 where
+  pub room : 4 * j + 4 ≤ length y
+  pub slot : markIn y j ≡ markAt s (startIn y j)
+  pub key : m ≡ markAt s p
 
 -- another mark, and so another key
 pub asks-other : {s y : List ℕ} {j m p : ℕ} → Asks s y j m p → ¬ (markIn y j ≡ m) → false ≡ sameKey s (startIn y j) p

@@ -42,12 +42,6 @@ pub record Indexed (s y : List ℕ) (first k : ℕ) : Type 0 where
   pub room : 4 * k ≤ length y
   pub slots : (j : ℕ) → first ≤ j → j < k → Slot s y first k j
 
--- the slot j can be asked about the key at p, whose mark is m
-pub record Asks (s y : List ℕ) (j m p : ℕ) : Type 0 where
-  pub room : 4 * j + 4 ≤ length y
-  pub slot : markIn y j ≡ markAt s (startIn y j)
-  pub key : m ≡ markAt s p
-
 -- a key that starts at p can go into the k-th slot
 pub record Fits (y : List ℕ) (k p : ℕ) : Type 0 where
   pub room : 4 * k + 4 ≤ length y
