@@ -12,8 +12,8 @@ use borrow.Author.Tests.{ne-eqb, lt-ltb, eqb-true}
 use Rattle.lexis.specs.declared.trivia.Gap.{Gap}
 use Rattle.lexis.specs.declared.trivia.Stop.{Stop}
 use Rattle.lexis.specs.Bytes.{byteAt, isSpace, begins, stands, upTo}
-use Rattle.lexis.specs.Trivia.{ending, endsLine, comment, Item, none, wide, endless, blockAs, closes, block, lineItem, item, endsAt, openAt, placed, gap, gapTo, Ending, Gapped, stopAt, stopComment, lineComment, stopTo}
-use Rattle.lexis.specs.RunLaws.{stands-cons, stands-one, stands-two, here, reach, reach-on, front, next, empty, left}
+use Rattle.lexis.specs.Trivia.{ending, endsLine, opensComment, comment, Item, none, wide, endless, blockAs, closes, block, lineItem, item, endsAt, openAt, placed, gap, gapTo, Ending, Gapped, stopAt, stopComment, lineComment, stopTo}
+use Rattle.lexis.specs.RunLaws.{clash, and-right, stands-cons, stands-one, stands-two, here, reach, reach-on, reach-stop, front, next, empty, left}
 use Rattle.lexis.specs.TriviaLaws.{item-nil, comment-end, gap-low, gap-high, gap-inside}
 
 -- the width of a line comment with its ending
@@ -62,14 +62,32 @@ module _ (s : List ℕ) (p : ℕ) where
       let g : p + 1 + 1 ≡ p + 2 = omega arith in
       comment-same (p + 2) (ap (reach endsLine s) (sym g) ∙ past-slash s (p + 1) f ∙ past-slash s p e)
 
-module _ (s : List ℕ) (p : ℕ) where
-  pub comment-ended : {i w : ℕ} → reach endsLine s p ≡ i → Ending s i w → (w ≡ 0 → ⊥) → stopAt 1 (i + w) ≡ lineComment p (drop p s)
-  comment-ended {i} {w} e h n = sym (comment-at s p e ∙ rw (← h .is) (kept w n))
-    where
-      kept : (k : ℕ) → (k ≡ 0 → ⊥) → stopComment i k ≡ stopAt 1 (i + k)
-      kept zero f = absurd (f refl)
-      kept (suc k) f = refl
+-- a line comment, byte by byte: it ends behind the first LF. Before that LF a CR may stand, with which the line ending begins
+module _ (s : List ℕ) (i : ℕ) where
+  pub comment-lf : byteAt s i ≡ 10 → stopAt 1 (i + 1) ≡ lineComment i (drop i s)
+  comment-lf e =
+      let f : endsLine (drop i s) ≡ true = rw (ending-lf s i e) in
+      sym (comment-at s i (reach-stop endsLine s i f) ∙ ap (stopComment i) (ending-lf s i e))
 
+  comment-crlf : ending (drop i s) ≡ 2 → stopAt 1 (i + 2) ≡ lineComment i (drop i s)
+  comment-crlf e =
+      let f : endsLine (drop i s) ≡ true = rw e in
+      sym (comment-at s i (reach-stop endsLine s i f) ∙ ap (stopComment i) e)
+
+module _ (s : List ℕ) (i : ℕ) where
+  pub comment-step : i < length s → (byteAt s i ≡ 10 → ⊥) → lineComment (i + 1) (drop (i + 1) s) ≡ lineComment i (drop i s)
+  comment-step h n = go (eqb (byteAt s i) 13 && stands (10 ∷ []) s (i + 1)) refl
+    where
+      go : (b : Bool) → (eqb (byteAt s i) 13 && stands (10 ∷ []) s (i + 1)) ≡ b → lineComment (i + 1) (drop (i + 1) s) ≡ lineComment i (drop i s)
+      go false e =
+          let f : endsLine (drop i s) ≡ false = rw (ending-is s i, ne-eqb (byteAt s i) 10 n, e) in
+          comment-same s i (i + 1) (reach-on endsLine s i h f)
+      go true e =
+          let f : ending (drop i s) ≡ 2 = ending-is s i ∙ rw (ne-eqb (byteAt s i) 10 n, e) in
+          let g : byteAt s (i + 1) ≡ 10 = eqb-true (byteAt s (i + 1)) 10 (sym (stands-one 10 s (i + 1) refl) ∙ and-right (eqb (byteAt s i) 13) (stands (10 ∷ []) s (i + 1)) e) in
+          sym (comment-lf s (i + 1) g) ∙ ap (stopAt 1) (omega arith) ∙ comment-crlf s i f
+
+module _ (s : List ℕ) (p : ℕ) where
   pub comment-cut : {i : ℕ} → length s ≤ i → reach endsLine s p ≡ i → stopAt 2 i ≡ lineComment p (drop p s)
   unfolding begins
   comment-cut {i} h e = sym (comment-at s p e ∙ rw (empty s i))
@@ -151,16 +169,19 @@ module _ (s : List ℕ) (p : ℕ) where
           widths zero = ap endsAt (omega arith)
           widths (suc k) = rw (lt-ltb 0 (suc k) (omega arith))
 
-  -- behind the slash no byte starts trivia
+  -- a byte over the space that is neither `#` nor a slash starts no trivia
+  pub item-other : (lines : Bool) → 32 < byteAt s p → (byteAt s p ≡ 47 → ⊥) → (byteAt s p ≡ 35 → ⊥) → endsAt p ≡ placed p (item lines (drop p s))
+  item-other true h n m = ap endsAt (omega arith) ∙ item-ending true refl {w = 0} unspaced n m (sym (ending-none s p (λ z. omega arith) (λ z. omega arith)))
+    where
+      unspaced : isSpace (byteAt s p) ≡ false
+      unspaced = rw (ne-eqb (byteAt s p) 32 (λ z. omega arith), ne-eqb (byteAt s p) 9 (λ z. omega arith))
+  item-other false h n m = sym (ap (placed p) (item-single false refl unspaced n))
+    where
+      unspaced : isSpace (byteAt s p) ≡ false
+      unspaced = rw (ne-eqb (byteAt s p) 32 (λ z. omega arith), ne-eqb (byteAt s p) 9 (λ z. omega arith))
+
   pub item-beyond : (lines : Bool) → 47 < byteAt s p → endsAt p ≡ placed p (item lines (drop p s))
-  item-beyond true h = ap endsAt (omega arith) ∙ item-ending true refl {w = 0} unspaced (λ z. omega arith) (λ z. omega arith) (sym (ending-none s p (λ z. omega arith) (λ z. omega arith)))
-    where
-      unspaced : isSpace (byteAt s p) ≡ false
-      unspaced = rw (ne-eqb (byteAt s p) 32 (λ z. omega arith), ne-eqb (byteAt s p) 9 (λ z. omega arith))
-  item-beyond false h = sym (ap (placed p) (item-single false refl unspaced (λ z. omega arith)))
-    where
-      unspaced : isSpace (byteAt s p) ≡ false
-      unspaced = rw (ne-eqb (byteAt s p) 32 (λ z. omega arith), ne-eqb (byteAt s p) 9 (λ z. omega arith))
+  item-beyond lines h = item-other lines (omega arith) (λ z. omega arith) (λ z. omega arith)
 
   -- what ends an object's item, byte by byte
   stop-is : stopTo s p
@@ -225,6 +246,18 @@ module _ (lines : Bool) (s : List ℕ) (i : ℕ) {g : Gap} (is : g ≡ placed i 
       let back : i + (g .at - i) ≡ g .at = omega arith in
       rw (at, drop-drop (g .at - i) i s, back) at
       (on-as lines i (drop i s) (item lines (drop i s)) refl (λ f. n (sym at ∙ f)) (omega (arith, left s i, at)))
+
+-- past a space, and where a byte starts no trivia
+module _ (lines : Bool) (s : List ℕ) (i : ℕ) where
+  pub gap-space : byteAt s i ≡ 32 → gapTo lines s (i + 1) ≡ gapTo lines s i
+  gap-space e =
+      let f : isSpace (byteAt s i) ≡ true = rw e in
+      gap-on lines s i {g = endsAt (i + 1)} (sym (ap (placed i) (item-space s i lines f))) (λ z. omega arith) (omega arith) (omega (arith, here s i))
+
+  pub gap-other : 32 < byteAt s i → opensComment (byteAt s i) ≡ false → endsAt i ≡ gapTo lines s i
+  gap-other h e =
+      let n : (k : ℕ) → opensComment k ≡ true → byteAt s i ≡ k → ⊥ = λ k t z. clash (sym t ∙ ap opensComment (sym z) ∙ e) in
+      gap-stop lines s i (item-other s i lines h (n 47 refl) (n 35 refl)) refl
 
 pub gapped : {lines : Bool} {s : List ℕ} {p : ℕ} (g : Gap) → g ≡ gapTo lines s p → Gapped lines s p g
 gapped {lines} {s} {p} g e =

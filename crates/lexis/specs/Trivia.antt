@@ -4,7 +4,7 @@ use mathlib.Core.Path.{_≡_}
 use mathlib.Core.List.{List, [], _∷_}
 use mathlib.Core.Bool.{Bool, true, false, cond, _||_}
 use lib.ListN.{length, drop}
-use lib.Dec.{ltb}
+use lib.Dec.{ltb, eqb}
 use Rattle.lexis.specs.Bytes.{byteAt, isSpace, begins, upTo}
 use Rattle.lexis.specs.declared.trivia.Gap.{Gap}
 use Rattle.lexis.specs.declared.trivia.Stop.{Stop}
@@ -20,6 +20,10 @@ endsLine xs = ltb 0 (ending xs)
 -- whether a line comment starts at the front of a list: `#` or `//`
 abbrev pub startsComment : List ℕ → Bool
 startsComment xs = begins (35 ∷ []) xs || begins (47 ∷ 47 ∷ []) xs
+
+-- whether a comment, of one line or more, can start with a byte
+abbrev pub opensComment : ℕ → Bool
+opensComment b = eqb b 47 || eqb b 35
 
 -- the width of a line comment up to its line ending, or to the end of the source
 abbrev pub comment : List ℕ → ℕ

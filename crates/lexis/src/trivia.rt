@@ -8,7 +8,7 @@ ghost use mathlib.Core.Bool.{true, false};
 ghost use Prim.Native.Nat.{_+_, _≤_};
 ghost use lib.ListN.{length, drop};
 ghost use Rattle.lexis.specs.Bytes.{byteAt};
-ghost use Rattle.lexis.specs.Trivia.{block, Ending, Placed, Itemed, Gapped, Commented, Stopped};
+ghost use Rattle.lexis.specs.Trivia.{block, opensComment, Ending, Placed, Itemed, Gapped, Commented, Stopped};
 
 // Where trivia ends, or where the block comment starts that nothing closes.
 pub struct Gap {
@@ -59,10 +59,9 @@ fn line_comment(s: &[u8], p: usize) -> Stop
 {
     let mut i = p;
     while i < s.len() {
-        let w = line_ending(s, i);
-        if w != 0 {
+        if byte_at(s, i) == 10 {
             return Stop {
-                at: i + w,
+                at: i + 1,
                 how: Stop::END,
             };
         }
@@ -164,12 +163,39 @@ fn item_at(s: &[u8], p: usize, lines: bool) -> Gap
     }
 }
 
-// Where the trivia from p ends, or the place of an unclosed block comment in it; `lines` says whether line endings count.
+// Whether a comment can start with b: a `#` or a slash.
+fn opens(b: u16) -> bool
+    ensures { λ r. ⌜ r ≡ opensComment b ⌝ }
+{
+    b == 47 || b == 35
+}
+
+// Where the trivia from p ends, or the place of an unclosed block comment in it; `lines` says whether line endings count. Space, and a byte that
+// starts no trivia, are looked at here: what is left for item_at is rare, and its two calls keep its code out of this loop.
 pub fn skip(s: &[u8], p: usize, lines: bool) -> Gap
     ensures { λ r. ⌜ Gapped lines (now (s .entry)) p r ⌝ }
 {
     let mut i = p;
     loop {
+        let b = byte_at(s, i);
+        if b == 32 {
+            i += 1;
+            continue;
+        }
+        if 32 < b {
+            if !opens(b) {
+                return Gap {
+                    at: i,
+                    unclosed: false,
+                };
+            }
+            let c = item_at(s, i, lines);
+            if c.at == i {
+                return c;
+            }
+            i = c.at;
+            continue;
+        }
         let g = item_at(s, i, lines);
         if g.at == i {
             return g;
