@@ -34,7 +34,7 @@ END {
     print "\n| Target | Wanted | Measured | |\n|---|---|--:|---|"
     if ("mixed-60000" in reader) {
         target("times as fast as Go, mixed object", "at least 40", sprintf("%.1f", ratio("mixed-60000")), 40 <= ratio("mixed-60000"))
-        most("instructions a byte, mixed object, both passes", 60, reader["mixed-60000"])
+        most("instructions a byte, mixed object", 60, reader["mixed-60000"])
         most("instructions a byte, mixed object, checker", 40, checker["mixed-60000"])
     }
     if ("operators-64k" in reader) most("instructions a byte, run of operators", 120, reader["operators-64k"])
