@@ -2,9 +2,10 @@
 use Prim.Native.Nat.{ℕ, zero, suc, _+_, _-_, _≤_, _<_}
 use mathlib.Core.Path.{_≡_, refl, sym, ap, subst, _∙_}
 use mathlib.Core.List.{List, [], _∷_, _++_}
-use mathlib.Core.Bool.{Bool, true, false, cond, _&&_, _||_}
+use mathlib.Core.Bool.{Bool, true, false, cond, _&&_, _||_, and-true}
 use mathlib.Core.Bool as bool
 use native.Mathlib.Nat.{zero-add}
+use native.Mathlib.Decide.{decLt}
 use native.Mathlib.Omega.{arith}
 use lib.ListN.{length, take, drop, length-drop, length-append}
 use lib.Dec.{ltb, eqb}
@@ -289,15 +290,22 @@ module _ (q f : Bool) (b : ℕ) (k : plainIn q f b ≡ true) where
 pub plain-none : (q f : Bool) {b : ℕ} (n : ℕ) → plainIn q f n ≡ false → b ≡ n → false ≡ plainIn q f b
 plain-none q f n e z = sym (ap (plainIn q f) z ∙ e)
 
+pub plain-marks : (q f : Bool) {b : ℕ} → 35 < b → b ≤ 37 → false ≡ plainIn q f b
+plain-marks q f {b} h l = go (decLt b 37)
+  where
+    go : Dec (b < 37) → false ≡ plainIn q f b
+    go (yes k) = plain-none q f {b = b} 36 refl (omega arith)
+    go (no k) = plain-none q f {b = b} 37 refl (omega arith)
+
 module _ (q f : Bool) {b : ℕ} (m : b ≡ 36 → ⊥) (n : b ≡ 37 → ⊥) (o : b ≡ 256 → ⊥) where
   pub plain-heredoc : q ≡ false → bool.not f ≡ plainIn q f b
   plain-heredoc e = sym (rw (ne-eqb b 36 m, ne-eqb b 37 n, ne-eqb b 256 o, e))
 
-  pub plain-rest : q ≡ true → (b ≡ 34 → ⊥) → bool.not (eqb b 92) ≡ plainIn q f b
-  plain-rest e h = sym (rw (ne-eqb b 36 m, ne-eqb b 37 n, ne-eqb b 256 o, ne-eqb b 34 h, e))
+  pub plain-high : q ≡ true → (b ≡ 34 → ⊥) → bool.not (eqb b 92) ≡ plainIn q f b
+  plain-high e h = sym (rw (ne-eqb b 36 m, ne-eqb b 37 n, ne-eqb b 256 o, ne-eqb b 34 h, e))
 
-pub plain-quote : (q f : Bool) {b : ℕ} → q ≡ true → b ≡ 34 → false ≡ plainIn q f b
-plain-quote q f e z = sym (rw (e, z))
+  pub plain-low : q ≡ true → (b ≡ 92 → ⊥) → bool.not (eqb b 34) ≡ plainIn q f b
+  plain-low e h = sym (rw (ne-eqb b 36 m, ne-eqb b 37 n, ne-eqb b 256 o, ne-eqb b 92 h, e) (and-true (bool.not (eqb b 34))))
 
 plain-fresh : (b : ℕ) → plainIn false true b ≡ false
 plain-fresh b = go (eqb b 36 || eqb b 37 || eqb b 256)

@@ -245,26 +245,26 @@ fn unit_in(s: &[u8], p: usize, quoted: bool, fresh: bool, d: usize, e: usize) ->
     }
 }
 
-// Whether b is text as it stands; fresh: a line starts with it. Most bytes are, so a run asks this first.
+// Whether b is text as it stands; fresh: a line starts with it. Most bytes are, so a run asks this first, and most of them are over the marks `$` and `%`.
 fn is_plain(b: u16, quoted: bool, fresh: bool) -> bool
     ensures { λ r. ⌜ r ≡ plainIn quoted fresh b ⌝ }
 {
-    if b == 36 {
-        return false;
+    if 37 < b {
+        if b == NOTHING {
+            return false;
+        }
+        if !quoted {
+            return !fresh;
+        }
+        return b != 92;
     }
-    if b == 37 {
-        return false;
-    }
-    if b == NOTHING {
+    if 35 < b {
         return false;
     }
     if !quoted {
         return !fresh;
     }
-    if b == 34 {
-        return false;
-    }
-    b != 92
+    b != 34
 }
 
 // The longest run of literal text from p, in quoted text, or in a heredoc whose delimiter stands in the source from d to e.
