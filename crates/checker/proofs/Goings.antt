@@ -239,6 +239,49 @@ module _ {s : List ℕ} {p : ℕ} {g : Went} (sp : Moved s p false g) where
   unfolding walk atom
   line-no n b σ = rw (sp .bad n)
 
+-- ---- the braces of an object
+
+module _ {s : List ℕ} {p e : ℕ} (c : ℕ) (h : Ran s p (markTo (c ∷ []) [] s p) e) where
+  mark-on : ¬ (e ≡ p) → marks s (c ∷ []) [] p ≡ to e
+  mark-on n = mark-comes (c ∷ []) [] (omega arith) h (past-some n refl) .good refl
+
+  mark-no : e ≡ p → place (marks s (c ∷ []) [] p) ≡ none
+  mark-no z = mark-comes (c ∷ []) [] (omega arith) h (past-none z refl) .bad (λ y. omega (arith, y))
+
+module _ (s : List ℕ) (b : Under) (σ : ℕ) where
+  pub open-deep : (p : ℕ) → b .left ≡ 0 → place (walk s b σ (opens (123 ∷ []) [] ∷ []) p) ≡ none
+  unfolding walk atom
+  open-deep p z = then-none (opening s (b .left) (123 ∷ []) [] p) to (rw z (level-none s (123 ∷ []) [] p))
+
+  pub open-on : {p e : ℕ} → ¬ (b .left ≡ 0) → Ran s p (markTo (123 ∷ []) [] s p) e → ¬ (e ≡ p) → place (walk s b σ (opens (123 ∷ []) [] ∷ []) p) ≡ some e
+  unfolding walk atom
+  open-on {p} {e} n h z = ap (λ (x : Step). place (then x to)) (level-some s (b .left) (123 ∷ []) [] p n ∙ mark-on 123 h z)
+
+  pub open-no : {p e : ℕ} → ¬ (b .left ≡ 0) → Ran s p (markTo (123 ∷ []) [] s p) e → e ≡ p → place (walk s b σ (opens (123 ∷ []) [] ∷ []) p) ≡ none
+  unfolding walk atom
+  open-no {p} n h z = then-none (opening s (b .left) (123 ∷ []) [] p) to (ap place (level-some s (b .left) (123 ∷ []) [] p n) ∙ mark-no 123 h z)
+
+  module _ {p : ℕ} {g : Went} (sp : Moved s p true g) where
+    pub any-no : (m : Move) → ¬ (g .kind ≡ 0) → place (walk s b σ (gap any ∷ m) p) ≡ none
+    unfolding walk atom
+    any-no m n = ap (λ (x : Step). place (then x (walk s b σ m))) (sp .bad n)
+
+    any-to : (m : Move) → g .kind ≡ 0 → place (walk s b σ (gap any ∷ m) p) ≡ place (walk s b σ m (g .at))
+    unfolding walk atom
+    any-to m z = ap (λ (x : Step). place (then x (walk s b σ m))) (sp .good z)
+
+    pub any-on : g .kind ≡ 0 → place (walk s b σ (gap any ∷ []) p) ≡ some (g .at)
+    unfolding walk
+    any-on z = any-to [] z
+
+    pub shut-on : {e : ℕ} → g .kind ≡ 0 → Ran s (g .at) (markTo (125 ∷ []) [] s (g .at)) e → ¬ (e ≡ g .at) → place (walk s b σ (gap any ∷ mark (125 ∷ []) [] ∷ []) p) ≡ some e
+    unfolding walk atom
+    shut-on z h n = any-to (mark (125 ∷ []) [] ∷ []) z ∙ ap (λ (x : Step). place (then x to)) (mark-on 125 h n)
+
+    pub shut-no : {e : ℕ} → g .kind ≡ 0 → Ran s (g .at) (markTo (125 ∷ []) [] s (g .at)) e → e ≡ g .at → place (walk s b σ (gap any ∷ mark (125 ∷ []) [] ∷ []) p) ≡ none
+    unfolding walk atom
+    shut-no z h n = any-to (mark (125 ∷ []) [] ∷ []) z ∙ then-none (marks s (125 ∷ []) [] (g .at)) to (mark-no 125 h n)
+
 -- ---- the sign of an item
 
 module _ {s : List ℕ} {m : Move} {p : ℕ} {r : Went} (g : Goes s m p r) where

@@ -5,6 +5,7 @@ pub mod Lones
 mod Lays
 mod Passes
 mod Directs
+mod Objects
 mod Strands
 mod TextTurns
 pub mod Tables

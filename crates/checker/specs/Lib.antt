@@ -6,6 +6,7 @@ pub mod Family
 pub mod Precedence
 pub mod Lone
 pub mod Lay
+pub mod Child
 pub mod Texts
 pub mod Node
 pub mod Check

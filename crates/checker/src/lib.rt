@@ -13,6 +13,7 @@ mod lay;
 mod lone;
 mod moves;
 mod node;
+mod object;
 mod pass;
 mod precedence;
 mod program;

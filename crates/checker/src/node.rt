@@ -5,6 +5,7 @@ use crate::family::family;
 use crate::kinds::first_at;
 use crate::kinds::is_grown;
 use crate::lay::lay;
+use crate::object::object;
 use crate::precedence::groups;
 use crate::program::fits;
 use crate::rows::wide;
@@ -197,18 +198,7 @@ fn grown(
     if x.end != end {
         return operator(s, table, i, marks, depths, next, x.end, own, lines);
     }
-    lay(
-        s,
-        table,
-        i,
-        marks,
-        depths,
-        keys,
-        next,
-        end,
-        levels(own),
-        lines,
-    )
+    lay(s, table, i, marks, depths, next, end, levels(own), lines)
 }
 
 // A node that begins with its own bytes, or is told by its place, and holds no literal text.
@@ -241,18 +231,11 @@ fn headed(
     if kind == Kind::ITEM {
         return item(s, table, i, marks, depths, first, start, own);
     }
-    lay(
-        s,
-        table,
-        i,
-        marks,
-        depths,
-        keys,
-        first,
-        start,
-        levels(own),
-        lines,
-    )
+    let left = levels(own);
+    if kind == Kind::OBJECT {
+        return object(s, table, i, marks, depths, keys, first, start, left, lines);
+    }
+    lay(s, table, i, marks, depths, first, start, left, lines)
 }
 
 // A node of any kind but a piece, over the children that are linked from the row `first` on.
