@@ -7,16 +7,17 @@ use mathlib.Core.Option.{none, some}
 use native.Mathlib.Omega.{arith}
 use lib.ListN.{length}
 use lib.Dec.{eqb}
-use borrow.Author.Tests.{ne-eqb, lt-ltb, le-ltb}
+use borrow.Author.Tests.{eq-eqb, ne-eqb, lt-ltb, le-ltb}
 use Rattle.lexis.specs.declared.trivia.Stop.{Stop}
 use Rattle.lexis.specs.Bytes.{byteAt, isForeign, stands, Ran}
 use Rattle.lexis.specs.Trivia.{Stopped}
+use Rattle.lexis.specs.Word.{identTo}
 use Rattle.lexis.specs.Operator.{isMark, markTo, equalsTo, bangTo}
 use Rattle.lexis.specs.Keys.{among}
 use Rattle.lexis.specs.RunLaws.{stands-one}
 use Rattle.grammar.specs.declared.moves.Went.{Went}
 use Rattle.grammar.specs.Kinds.{Foreign, Unexpected}
-use Rattle.grammar.specs.Moves.{Under, Step, to, no, then, place, when, unexpected, Atom, gap, mark, opens, unless, stop, ended, fresh, any, line, here, Want, keysOf, behindKey, skip, marks, level, opening, stopStep, stopping, atom, Move, walk}
+use Rattle.grammar.specs.Moves.{Under, Step, to, no, then, place, when, unexpected, token, Atom, gap, ident, mark, opens, unless, stop, ended, fresh, any, line, here, Want, keysOf, behindKey, skip, marks, level, opening, stopStep, stopping, atom, Move, walk}
 use Rattle.grammar.specs.Hcl.{under}
 use Rattle.grammar.specs.Code.{moveAt}
 use Rattle.grammar.specs.Said.{went, Moved, Made, Walked}
@@ -281,6 +282,25 @@ module _ (s : List ℕ) (b : Under) (σ : ℕ) where
     pub shut-no : {e : ℕ} → g .kind ≡ 0 → Ran s (g .at) (markTo (125 ∷ []) [] s (g .at)) e → e ≡ g .at → place (walk s b σ (gap any ∷ mark (125 ∷ []) [] ∷ []) p) ≡ none
     unfolding walk atom
     shut-no z h n = any-to (mark (125 ∷ []) [] ∷ []) z ∙ then-none (marks s (125 ∷ []) [] (g .at)) to (mark-no 125 h n)
+
+-- ---- an identifier, and a dot
+
+module _ (s : List ℕ) (b : Under) (σ : ℕ) where
+  pub ident-on : {p e : ℕ} → Ran s p (identTo s p) e → ¬ (e ≡ p) → place (walk s b σ (ident ∷ []) p) ≡ some e
+  unfolding walk atom
+  ident-on {p} {e} h n = subst (λ (o : ℕ). place (then (token s p o) to) ≡ some e) (h .is) (rw (ne-eqb e p n))
+
+  pub ident-no : {p e : ℕ} → Ran s p (identTo s p) e → e ≡ p → place (walk s b σ (ident ∷ []) p) ≡ none
+  unfolding walk atom
+  ident-no {p} {e} h z = subst (λ (o : ℕ). place (then (token s p o) to) ≡ none) (h .is) (rw (eq-eqb e p z) (then-none (unexpected s p) to (unexpected-none s p)))
+
+  pub dot-on : {p e : ℕ} → Ran s p (markTo (46 ∷ []) [] s p) e → ¬ (e ≡ p) → place (walk s b σ (mark (46 ∷ []) [] ∷ []) p) ≡ some e
+  unfolding walk atom
+  dot-on h n = ap (λ (x : Step). place (then x to)) (mark-on 46 h n)
+
+  pub dot-no : {p e : ℕ} → Ran s p (markTo (46 ∷ []) [] s p) e → e ≡ p → place (walk s b σ (mark (46 ∷ []) [] ∷ []) p) ≡ none
+  unfolding walk atom
+  dot-no {p} h z = then-none (marks s (46 ∷ []) [] p) to (mark-no 46 h z)
 
 -- ---- the sign of an item
 

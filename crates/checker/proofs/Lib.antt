@@ -6,6 +6,7 @@ mod Lays
 mod Passes
 mod Directs
 mod Objects
+mod Bares
 mod Strands
 mod TextTurns
 pub mod Tables

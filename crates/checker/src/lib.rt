@@ -6,6 +6,7 @@ use crate::text::columns;
 use lexis::utf8::first_bad;
 ghost use Rattle.checker.specs.Check.{Rooted, Ready, Walking, Checks};
 
+mod bare;
 mod direct;
 mod family;
 mod kinds;

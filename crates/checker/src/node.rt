@@ -1,4 +1,6 @@
 // The rule at one row.
+use crate::bare::attribute;
+use crate::bare::name;
 use crate::direct::item;
 use crate::direct::operator;
 use crate::family::family;
@@ -230,6 +232,12 @@ fn headed(
     }
     if kind == Kind::ITEM {
         return item(s, table, i, marks, depths, first, start, own);
+    }
+    if kind == Kind::ATTRIBUTE {
+        return attribute(s, table, i, first, start);
+    }
+    if kind == Kind::NAME {
+        return name(s, table, i, first, start);
     }
     let left = levels(own);
     if kind == Kind::OBJECT {
