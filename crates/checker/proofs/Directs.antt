@@ -28,6 +28,7 @@ use Rattle.checker.specs.Leaf.{ChildAt, GoneAt}
 use Rattle.checker.specs.LeafMore.{Goes, SignBy}
 use Rattle.checker.specs.declared.node.Left.{Left}
 use Rattle.checker.specs.Node.{LeftTo}
+use Rattle.checker.specs.Child.{kidded, ChildBy}
 use Rattle.checker.specs.Lay.{SuitsAt, KidBy, Direct, noPass, PassedBy, EndsAt, LaidBy, Operates, OperatorBy}
 use Rattle.checker.proofs.Programs.{child-key, child-value}
 use Rattle.checker.proofs.Goings.{here-on, here-no, line-on, line-no, gone-equals, gone-colon}
@@ -38,11 +39,6 @@ use Rattle.checker.proofs.Lays.{no-keys, Known, known, Turn, turn-start
 
 abbrev child : ℕ → Bool → ℕ → ℕ → Child
 child d l b w = record { left = d; lines = l; bound = b; want = w }
-
--- what is passed with it
-abbrev kept : List ℕ → List ℕ → ℕ → ℕ → Bool → Passed
-kept t m j n true = record { good = true; end = (rowAt t j) .end; next = getD m j 0; keys = n }
-kept t m j n false = noPass n
 
 -- a right operand
 pub child-right : (left : ℕ) (lines : Bool) {c n : ℕ} → classIn c ≡ right n → ChildAt c left lines (child left lines n 0)
@@ -56,7 +52,7 @@ child-right left lines {c} {n} e = record {
   fewer = omega arith;
 }
 
-no-op : {x m n : ℕ} → x ≡ m → ¬ (m ≡ n) → ¬ (x ≡ n)
+pub no-op : {x m n : ℕ} → x ≡ m → ¬ (m ≡ n) → ¬ (x ≡ n)
 no-op e h f = h (sym e ∙ f)
 
 -- a depth in one number
@@ -71,12 +67,12 @@ module _ (s t : List ℕ) (i left : ℕ) (lines : Bool) where
   abbrev kind : ℕ
   kind = (rowAt t i) .kind
 
-  kid-passed : {m D D′ K : List ℕ} {j n c at v : ℕ} {y : Child} (r : Bool) → ChildAt c left lines y → ¬ (y .want ≡ 4) → v ≡ y .left + y .left + cond (y .lines) 1 0 → Indexed s K 0 n → KidBy t i D D′ j at (y .bound) (y .want) v r → PassedBy s t i m D D′ K K j n c left lines at (kept t m j n r)
+  pub kid-passed : {m D D′ K : List ℕ} {j n c at v : ℕ} {y : Child} (r : Bool) → ChildAt c left lines y → ¬ (y .want ≡ 4) → v ≡ y .left + y .left + cond (y .lines) 1 0 → Indexed s K 0 n → KidBy t i D D′ j at (y .bound) (y .want) v r → PassedBy s t i m D D′ K K j n c left lines at (kidded t m j n r)
   kid-passed {m} {D} {D′} {K} {j} {n} {c} {at} {v} {y} true h f p ix k =
-      subst (λ (o : List ℕ). PassedBy s t i m D o K K j n c left lines at (kept t m j n true)) (sym (k .put refl))
+      subst (λ (o : List ℕ). PassedBy s t i m D o K K j n c left lines at (kidded t m j n true)) (sym (k .put refl))
       (pass-yes s t i m D K j n c left lines at h (k .suits refl) refl (met-other s K n ((rowAt t j) .start) (y .want) ix f) refl (k .inside refl) p refl refl refl refl)
   kid-passed {m} {D} {D′} {K} {j} {n} {c} {at} {v} {y} false h f p ix k =
-      subst (λ (o : List ℕ). PassedBy s t i m D o K K j n c left lines at (kept t m j n false)) (sym (k .still refl))
+      subst (λ (o : List ℕ). PassedBy s t i m D o K K j n c left lines at (kidded t m j n false)) (sym (k .still refl))
       (pass-no s t i m D K j n c left lines at refl refl (λ l a g w σ ks e b. let (u, x) = kinds-in s t i m D K j n c left lines at h w σ ks (recAt t j) b in k .no refl l .no refl a g u x))
 
   module _ {m D₀ D K : List ℕ} {j₀ p₀ pc q j n : ℕ} (w : Turn s t i left lines m D₀ D K j₀ p₀ pc q j n) where
@@ -112,6 +108,9 @@ module _ (s t : List ℕ) (i left : ℕ) (lines : Bool) where
     -- the row that is next
     pub direct-low : j ≤ i
     direct-low = chain-le m i (w .js) j (w .chain)
+
+pub child-by : {t : List ℕ} {i left : ℕ} {lines : Bool} {D D′ : List ℕ} {j c at v : ℕ} {y : Child} {r : Bool} → ChildAt c left lines y → v ≡ y .left + y .left + cond (y .lines) 1 0 → KidBy t i D D′ j at (y .bound) (y .want) v r → ChildBy t i D D′ j c left lines at r
+child-by {t} {i} {left} {lines} {r = r} h p k = record { long = k .long; inside = k .inside; passed = λ s m K n ne ix. kid-passed s t i left lines r h (λ z. ne (h .item z)) p ix k }
 
 -- ---- items: the program from 236 on
 

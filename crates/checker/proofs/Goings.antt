@@ -7,16 +7,17 @@ use mathlib.Core.Option.{none, some}
 use native.Mathlib.Omega.{arith}
 use lib.ListN.{length}
 use lib.Dec.{eqb}
-use borrow.Author.Tests.{ne-eqb, lt-ltb, le-ltb}
+use borrow.Author.Tests.{eq-eqb, ne-eqb, lt-ltb, le-ltb}
 use Rattle.lexis.specs.declared.trivia.Stop.{Stop}
 use Rattle.lexis.specs.Bytes.{byteAt, isForeign, stands, Ran}
 use Rattle.lexis.specs.Trivia.{Stopped}
+use Rattle.lexis.specs.Word.{identTo}
 use Rattle.lexis.specs.Operator.{isMark, markTo, equalsTo, bangTo}
 use Rattle.lexis.specs.Keys.{among}
 use Rattle.lexis.specs.RunLaws.{stands-one}
 use Rattle.grammar.specs.declared.moves.Went.{Went}
 use Rattle.grammar.specs.Kinds.{Foreign, Unexpected}
-use Rattle.grammar.specs.Moves.{Under, Step, to, no, then, place, when, unexpected, Atom, gap, mark, opens, unless, stop, ended, fresh, any, line, here, Want, keysOf, behindKey, skip, marks, level, opening, stopStep, stopping, atom, Move, walk}
+use Rattle.grammar.specs.Moves.{Under, Step, to, no, then, place, when, unexpected, token, Atom, gap, ident, mark, opens, unless, stop, ended, fresh, any, line, here, Want, keysOf, behindKey, skip, marks, level, opening, stopStep, stopping, atom, Move, walk}
 use Rattle.grammar.specs.Hcl.{under}
 use Rattle.grammar.specs.Code.{moveAt}
 use Rattle.grammar.specs.Said.{went, Moved, Made, Walked}
@@ -238,6 +239,68 @@ module _ {s : List ℕ} {p : ℕ} {g : Went} (sp : Moved s p false g) where
   pub line-no : ¬ (g .kind ≡ 0) → (b : Under) (σ : ℕ) → place (walk s b σ (gap line ∷ []) p) ≡ none
   unfolding walk atom
   line-no n b σ = rw (sp .bad n)
+
+-- ---- the braces of an object
+
+module _ {s : List ℕ} {p e : ℕ} (c : ℕ) (h : Ran s p (markTo (c ∷ []) [] s p) e) where
+  mark-on : ¬ (e ≡ p) → marks s (c ∷ []) [] p ≡ to e
+  mark-on n = mark-comes (c ∷ []) [] (omega arith) h (past-some n refl) .good refl
+
+  mark-no : e ≡ p → place (marks s (c ∷ []) [] p) ≡ none
+  mark-no z = mark-comes (c ∷ []) [] (omega arith) h (past-none z refl) .bad (λ y. omega (arith, y))
+
+module _ (s : List ℕ) (b : Under) (σ : ℕ) where
+  pub open-deep : (p : ℕ) → b .left ≡ 0 → place (walk s b σ (opens (123 ∷ []) [] ∷ []) p) ≡ none
+  unfolding walk atom
+  open-deep p z = then-none (opening s (b .left) (123 ∷ []) [] p) to (rw z (level-none s (123 ∷ []) [] p))
+
+  pub open-on : {p e : ℕ} → ¬ (b .left ≡ 0) → Ran s p (markTo (123 ∷ []) [] s p) e → ¬ (e ≡ p) → place (walk s b σ (opens (123 ∷ []) [] ∷ []) p) ≡ some e
+  unfolding walk atom
+  open-on {p} {e} n h z = ap (λ (x : Step). place (then x to)) (level-some s (b .left) (123 ∷ []) [] p n ∙ mark-on 123 h z)
+
+  pub open-no : {p e : ℕ} → ¬ (b .left ≡ 0) → Ran s p (markTo (123 ∷ []) [] s p) e → e ≡ p → place (walk s b σ (opens (123 ∷ []) [] ∷ []) p) ≡ none
+  unfolding walk atom
+  open-no {p} n h z = then-none (opening s (b .left) (123 ∷ []) [] p) to (ap place (level-some s (b .left) (123 ∷ []) [] p n) ∙ mark-no 123 h z)
+
+  module _ {p : ℕ} {g : Went} (sp : Moved s p true g) where
+    pub any-no : (m : Move) → ¬ (g .kind ≡ 0) → place (walk s b σ (gap any ∷ m) p) ≡ none
+    unfolding walk atom
+    any-no m n = ap (λ (x : Step). place (then x (walk s b σ m))) (sp .bad n)
+
+    any-to : (m : Move) → g .kind ≡ 0 → place (walk s b σ (gap any ∷ m) p) ≡ place (walk s b σ m (g .at))
+    unfolding walk atom
+    any-to m z = ap (λ (x : Step). place (then x (walk s b σ m))) (sp .good z)
+
+    pub any-on : g .kind ≡ 0 → place (walk s b σ (gap any ∷ []) p) ≡ some (g .at)
+    unfolding walk
+    any-on z = any-to [] z
+
+    pub shut-on : {e : ℕ} → g .kind ≡ 0 → Ran s (g .at) (markTo (125 ∷ []) [] s (g .at)) e → ¬ (e ≡ g .at) → place (walk s b σ (gap any ∷ mark (125 ∷ []) [] ∷ []) p) ≡ some e
+    unfolding walk atom
+    shut-on z h n = any-to (mark (125 ∷ []) [] ∷ []) z ∙ ap (λ (x : Step). place (then x to)) (mark-on 125 h n)
+
+    pub shut-no : {e : ℕ} → g .kind ≡ 0 → Ran s (g .at) (markTo (125 ∷ []) [] s (g .at)) e → e ≡ g .at → place (walk s b σ (gap any ∷ mark (125 ∷ []) [] ∷ []) p) ≡ none
+    unfolding walk atom
+    shut-no z h n = any-to (mark (125 ∷ []) [] ∷ []) z ∙ then-none (marks s (125 ∷ []) [] (g .at)) to (mark-no 125 h n)
+
+-- ---- an identifier, and a dot
+
+module _ (s : List ℕ) (b : Under) (σ : ℕ) where
+  pub ident-on : {p e : ℕ} → Ran s p (identTo s p) e → ¬ (e ≡ p) → place (walk s b σ (ident ∷ []) p) ≡ some e
+  unfolding walk atom
+  ident-on {p} {e} h n = subst (λ (o : ℕ). place (then (token s p o) to) ≡ some e) (h .is) (rw (ne-eqb e p n))
+
+  pub ident-no : {p e : ℕ} → Ran s p (identTo s p) e → e ≡ p → place (walk s b σ (ident ∷ []) p) ≡ none
+  unfolding walk atom
+  ident-no {p} {e} h z = subst (λ (o : ℕ). place (then (token s p o) to) ≡ none) (h .is) (rw (eq-eqb e p z) (then-none (unexpected s p) to (unexpected-none s p)))
+
+  pub dot-on : {p e : ℕ} → Ran s p (markTo (46 ∷ []) [] s p) e → ¬ (e ≡ p) → place (walk s b σ (mark (46 ∷ []) [] ∷ []) p) ≡ some e
+  unfolding walk atom
+  dot-on h n = ap (λ (x : Step). place (then x to)) (mark-on 46 h n)
+
+  pub dot-no : {p e : ℕ} → Ran s p (markTo (46 ∷ []) [] s p) e → e ≡ p → place (walk s b σ (mark (46 ∷ []) [] ∷ []) p) ≡ none
+  unfolding walk atom
+  dot-no {p} h z = then-none (marks s (46 ∷ []) [] p) to (mark-no 46 h z)
 
 -- ---- the sign of an item
 

@@ -9,7 +9,7 @@ use native.Mathlib.Omega.{arith}
 use lib.ListN.{length, getD, set, length-set}
 use lib.Seq.{getD-set-same, getD-set-other}
 use lib.Dec.{eqb, eqb→eq, ltb, ltb→lt, T}
-use borrow.Author.Tests.{eqb-true, eq-eqb}
+use borrow.Author.Tests.{eqb-true, eq-eqb, ne-eqb}
 use Rattle.lexis.specs.RunLaws.{clash}
 use Rattle.index.specs.Index.{Indexed}
 use Rattle.index.specs.Index as index
@@ -32,6 +32,7 @@ use Rattle.checker.specs.Program.{codeIn, moveIn, classIn, Codes, All, b
 use Rattle.checker.specs.Leaf.{InstrAt, GoneAt}
 use Rattle.checker.specs.declared.lone.Lone.{Lone}
 use Rattle.checker.specs.Lone.{AloneAt}
+use Rattle.checker.specs.Child.{kidded, ChildBy}
 use Rattle.checker.specs.Lay.{coded, depthsAt, Both, KeysOf, Passing, PassedBy, Filled, Over, EndsAt, Laying, Children, LaidBy}
 use Rattle.checker.proofs.Overs.{AtKid, over-fin, over-kid, over-move, over-yes, over-no, over-rep, over-end}
 
@@ -650,6 +651,16 @@ module _ (s t : List ℕ) (i left : ℕ) (lines : Bool) where
         let x = rep-as (w .lay) refl (w .codes) (w .fits) (w .items) e at g in
         child-no deep h (x .fit) (x .itm) (w .lay) (x .begins) z
 
+    -- a child is an item only in an object
+    no-entry : (kind ≡ 12 → ⊥) → (x : Class) → T (same (eqb kind 12) (isEntry x)) → x ≡ entry → ⊥
+    no-entry n x h e = subst (λ (b : Bool). T (same b true)) (ne-eqb kind 12 n) (subst (λ (o : Class). T (same (eqb kind 12) (isEntry o))) e h)
+
+    pub kid-plain : (kind ≡ 12 → ⊥) → op pc ≡ 3 → sort pc ≡ entry → ⊥
+    kid-plain n e f = no-entry n (sort pc) (kid-as (w .lay) refl (w .codes) (w .forward) (w .fits) (w .items) e .itm) f
+
+    pub rep-plain : (kind ≡ 12 → ⊥) → op pc ≡ 5 → (at : ℕ) → gone (step pc) q ≡ some at → sort pc ≡ entry → ⊥
+    rep-plain n e at g f = no-entry n (sort pc) (rep-as (w .lay) refl (w .codes) (w .fits) (w .items) e at g .itm) f
+
     -- what `pass` asks for
     pub turn-passing : {K₀ : List ℕ} {c at : ℕ} {r : Lone} → Laying t i m D₀ K₀ j₀ left → length K ≡ length K₀ → AloneAt s c at r → Passing s t i m D K j n c left at (r .yes)
     turn-passing a e h = record {
@@ -709,6 +720,41 @@ module _ (s t : List ℕ) (i left : ℕ) (lines : Bool) where
 
     pub do-on : {g : Went} → ¬ (x .op ≡ 1) → ¬ (x .op ≡ 3) → ¬ (x .op ≡ 5) → GoneAt s left lines (x .arg) q g → g .kind ≡ 0 → Turn m D₀ D K j₀ p₀ (pc + 1) (g .at) j n
     do-on e₁ e₃ e₅ h z = turn-on w (not-op 1 e₁) (not-op 3 e₃) (not-op 5 e₅) _ (went-to h z)
+
+    -- a child in a node without items
+    class-is : sort pc ≡ classIn (x .class)
+    class-is = ap classIn (sym (at .class))
+
+    abbrev child-passed : List ℕ → ℕ → Bool → Type 0
+    child-passed D′ p b = PassedBy s t i m D D′ K K j n (x .class) left lines p (kidded t m j n b)
+
+    behind : {D′ : List ℕ} {q′ j′ pc′ : ℕ} → q′ ≡ (rowAt t j) .end → j′ ≡ getD m j 0 → Turn m D₀ D′ K j₀ p₀ pc′ ((rowAt t j) .end) (getD m j 0) n → Turn m D₀ D′ K j₀ p₀ pc′ q′ j′ n
+    behind {D′} {q′} {j′} {pc′} e f z = subst (λ (o : ℕ). Turn m D₀ D′ K j₀ p₀ pc′ q′ o n) (sym f) (subst (λ (o : ℕ). Turn m D₀ D′ K j₀ p₀ pc′ o (getD m j 0) n) (sym e) z)
+
+    module _ (n₁₂ : kind ≡ 12 → ⊥) (deep : i < length D) where
+      module _ (e : x .op ≡ 3) {D′ : List ℕ} {r : Bool} (h : ChildBy t i D D′ j (x .class) left lines q r) where
+        as-kid : PassedBy s t i m D D′ K K j n (x .class) left lines q (kidded t m j n r)
+        as-kid = h .passed s m K n (λ f. kid-plain w n₁₂ (is-op 3 e) (class-is ∙ f)) (w .indexed)
+
+        pub plain-kid : {q′ j′ : ℕ} → r ≡ true → q′ ≡ (rowAt t j) .end → j′ ≡ getD m j 0 → Turn m D₀ D′ K j₀ p₀ (pc + 1) q′ j′ n
+        plain-kid z a b = behind a b (do-kid deep e (subst (child-passed D′ q) z as-kid) refl)
+
+        pub plain-kid-no : r ≡ false → LaidBy s t i m D₀ D′ j₀ p₀ left lines false
+        plain-kid-no z = do-kid-no deep e (subst (child-passed D′ q) z as-kid) refl
+
+      module _ (e : x .op ≡ 5) {g : Went} (o : GoneAt s left lines (x .arg) q g) (k : g .kind ≡ 0) {D′ : List ℕ} {r : Bool} (h : ChildBy t i D D′ j (x .class) left lines (g .at) r) where
+        as-rep : PassedBy s t i m D D′ K K j n (x .class) left lines (g .at) (kidded t m j n r)
+        as-rep = h .passed s m K n (λ f. rep-plain w n₁₂ (is-op 5 e) (g .at) (went-to o k) (class-is ∙ f)) (w .indexed)
+
+        pub plain-rep : {q′ j′ : ℕ} → r ≡ true → q′ ≡ (rowAt t j) .end → j′ ≡ getD m j 0 → Turn m D₀ D′ K j₀ p₀ pc q′ j′ n
+        plain-rep z a b = behind a b (do-rep deep e o k (subst (child-passed D′ (g .at)) z as-rep) refl)
+
+        pub plain-rep-no : r ≡ false → LaidBy s t i m D₀ D′ j₀ p₀ left lines false
+        plain-rep-no z = do-rep-no deep e o k (subst (child-passed D′ (g .at)) z as-rep) refl
+
+    -- the row behind a child
+    pub plain-up : {j′ : ℕ} → j < i → j′ ≡ getD m j 0 → (j < j′) × (j′ ≤ i)
+    plain-up l e = let y = next-of m i (w .js) j (w .chain) l in (omega (arith, y .up, e), omega (arith, y .far, e))
 
     -- a child that is passed is further on
     pub do-up : {K′ D′ : List ℕ} {p : ℕ} {r : Passed} → PassedBy s t i m D D′ K K′ j n (x .class) left lines p r → r .good ≡ true → (j < r .next) × (r .next ≤ i)

@@ -5,6 +5,8 @@ pub mod Lones
 mod Lays
 mod Passes
 mod Directs
+mod Objects
+mod Bares
 mod Strands
 mod TextTurns
 pub mod Tables

@@ -6,6 +6,8 @@ pub mod Family
 pub mod Precedence
 pub mod Lone
 pub mod Lay
+pub mod Child
+pub mod Token
 pub mod Texts
 pub mod Node
 pub mod Check

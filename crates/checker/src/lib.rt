@@ -6,6 +6,7 @@ use crate::text::columns;
 use lexis::utf8::first_bad;
 ghost use Rattle.checker.specs.Check.{Rooted, Ready, Walking, Checks};
 
+mod bare;
 mod direct;
 mod family;
 mod kinds;
@@ -13,6 +14,7 @@ mod lay;
 mod lone;
 mod moves;
 mod node;
+mod object;
 mod pass;
 mod precedence;
 mod program;

@@ -93,7 +93,7 @@ fn ended(s: &[u8], p: usize) -> Went
 }
 
 // Behind an item that ends at p, to the next item, which is no `}`.
-fn more(s: &[u8], p: usize) -> Went
+pub fn more(s: &[u8], p: usize) -> Went
     ensures { λ r. ⌜ Goes (now (s .entry)) (ownMove 4) p r ⌝ }
 {
     let g = space(s, p, false);
@@ -112,7 +112,7 @@ fn more(s: &[u8], p: usize) -> Went
 }
 
 // Behind the last item, which ends at p, past the `}`.
-fn closing(s: &[u8], p: usize) -> Went
+pub fn closing(s: &[u8], p: usize) -> Went
     ensures { λ r. ⌜ Goes (now (s .entry)) (ownMove 5) p r ⌝ }
 {
     let g = space(s, p, false);

@@ -1,10 +1,13 @@
 // The rule at one row.
+use crate::bare::attribute;
+use crate::bare::name;
 use crate::direct::item;
 use crate::direct::operator;
 use crate::family::family;
 use crate::kinds::first_at;
 use crate::kinds::is_grown;
 use crate::lay::lay;
+use crate::object::object;
 use crate::precedence::groups;
 use crate::program::fits;
 use crate::rows::wide;
@@ -197,18 +200,7 @@ fn grown(
     if x.end != end {
         return operator(s, table, i, marks, depths, next, x.end, own, lines);
     }
-    lay(
-        s,
-        table,
-        i,
-        marks,
-        depths,
-        keys,
-        next,
-        end,
-        levels(own),
-        lines,
-    )
+    lay(s, table, i, marks, depths, next, end, levels(own), lines)
 }
 
 // A node that begins with its own bytes, or is told by its place, and holds no literal text.
@@ -241,18 +233,17 @@ fn headed(
     if kind == Kind::ITEM {
         return item(s, table, i, marks, depths, first, start, own);
     }
-    lay(
-        s,
-        table,
-        i,
-        marks,
-        depths,
-        keys,
-        first,
-        start,
-        levels(own),
-        lines,
-    )
+    if kind == Kind::ATTRIBUTE {
+        return attribute(s, table, i, first, start);
+    }
+    if kind == Kind::NAME {
+        return name(s, table, i, first, start);
+    }
+    let left = levels(own);
+    if kind == Kind::OBJECT {
+        return object(s, table, i, marks, depths, keys, first, start, left, lines);
+    }
+    lay(s, table, i, marks, depths, first, start, left, lines)
 }
 
 // A node of any kind but a piece, over the children that are linked from the row `first` on.

@@ -11,6 +11,7 @@ ghost use mathlib.Core.Bool.{cond};
 ghost use Prim.Native.Nat.{_+_, _*_, _≤_};
 ghost use lib.ListN.{length};
 ghost use Rattle.grammar.specs.Moves.{lone};
+ghost use Rattle.checker.specs.Child.{ChildBy};
 ghost use Rattle.checker.specs.Lay.{SuitsAt, Seating, KidBy, Meeting, MetAt, noPass, Passing, PassedBy};
 
 // What is wanted where an item stands.
@@ -112,6 +113,25 @@ pub fn packed(left: usize, lines: bool) -> u8
     } else {
         (left + left) as u8
     }
+}
+
+// The same for a child of a class of the program, in a node with so many levels left, where a line end may stand or not.
+pub fn child_at(
+    table: &[u16],
+    i: usize,
+    depths: &mut [u8],
+    j: usize,
+    at: usize,
+    class: u8,
+    left: usize,
+    lines: bool,
+) -> bool
+    requires { ⌜ Seating (now table) i (now depths) j × (left ≤ 127) ⌝ }
+    ensures { λ r. ⌜ ChildBy (now (table .entry)) i (now (depths .entry)) (now (depths .exit)) j class left lines at r ⌝ }
+{
+    let y = child(class, left, lines);
+    let depth = packed(y.left, y.lines);
+    kid(table, i, depths, j, at, y.bound, y.want, depth)
 }
 
 fn missed(n: usize) -> Passed

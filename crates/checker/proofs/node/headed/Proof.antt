@@ -16,6 +16,9 @@ use Rattle.checker.proofs.node.levels.Reads as levels-reads
 use Rattle.checker.proofs.node.multi_line.Reads as multi-line-reads
 use Rattle.checker.proofs.rows.wide.Reads as wide-reads
 use Rattle.checker.proofs.single.single.Reads as single-reads
+use Rattle.checker.proofs.object.object.Reads as object-reads
+use Prim.Native.Nat.{_/_, _%_}
+use lib.Dec.{eqb}
 
 mul-kind : tie.Need-mul-kind
 mul-kind c = search needs
@@ -65,20 +68,41 @@ same-length c = omega (arith, (c .before .before .item .ensures .long))
 returns-3 : tie.Need-returns-3
 returns-3 c = head-by _ _ _ _ _ _ _ _ (c .before .before .before .before .before .before .before .before .before .before .before .before .before .before .before .before .before .before .pre .2) (c .before .before .before .before .before .before .before .before .before .before .before .before .before .before .before .before .before .before .pre .3) (not-false _ (c .before .before .before .before .before .if3 .left)) (first-as (c .before .before .before .before .before .before .before .before .before .wide .ensures .0) (c .before .before .before .before .before .before .before .before .multi-line .ensures) (c .before .before .before .before .before .before .first-at .ensures)) (laid-as (c .before .before .before .before .before .before .before .before .before .wide .ensures .0) refl refl (c .before .before .item .ensures))
 
+attribute-requires : tie.Need-attribute-requires
+attribute-requires c κs = ((c .before .before .before .before .before .before .before .before .before .before .before .before .before .before .before .pre .0 .within), (c .if5 .taken))
+
+returns-4 : tie.Need-returns-4
+returns-4 c = head-by _ _ _ _ _ _ _ _ (c .before .before .before .before .before .before .before .before .before .before .before .before .before .before .before .before .pre .2) (c .before .before .before .before .before .before .before .before .before .before .before .before .before .before .before .before .pre .3) (not-false _ (c .before .before .before .if3 .left)) (first-as (c .before .before .before .before .before .before .before .wide .ensures .0) (c .before .before .before .before .before .before .multi-line .ensures) (c .before .before .before .before .first-at .ensures)) (laid-as (c .before .before .before .before .before .before .before .wide .ensures .0) refl refl ((c .attribute .ensures .laid) (c .before .before .before .before .before .before .before .before .before .before .before .before .before .before .before .before .args .marks .now) (c .before .before .before .before .before .before .before .before .before .before .before .before .before .before .before .before .args .depths .now) (c .before .before .before .before .before .before .before .before .before .before .before .before .before .before .before .before .pre .1 .js) ((c .before .before .before .before .before .before .before .before .before .before .before .before .before .before .before .before .args .own) / 2) (eqb ((c .before .before .before .before .before .before .before .before .before .before .before .before .before .before .before .before .args .own) % 2) 1) (c .before .before .before .before .before .before .before .before .before .before .before .before .before .before .before .before .pre .1 .chain)))
+
+name-requires : tie.Need-name-requires
+name-requires c κs = ((c .before .before .before .before .before .before .before .before .before .before .before .before .before .before .before .before .pre .0 .within), (c .if6 .taken))
+
+returns-5 : tie.Need-returns-5
+returns-5 c = head-by _ _ _ _ _ _ _ _ (c .before .before .before .before .before .before .before .before .before .before .before .before .before .before .before .before .before .pre .2) (c .before .before .before .before .before .before .before .before .before .before .before .before .before .before .before .before .before .pre .3) (not-false _ (c .before .before .before .before .if3 .left)) (first-as (c .before .before .before .before .before .before .before .before .wide .ensures .0) (c .before .before .before .before .before .before .before .multi-line .ensures) (c .before .before .before .before .before .first-at .ensures)) (laid-as (c .before .before .before .before .before .before .before .before .wide .ensures .0) refl refl ((c .name .ensures .laid) (c .before .before .before .before .before .before .before .before .before .before .before .before .before .before .before .before .before .args .marks .now) (c .before .before .before .before .before .before .before .before .before .before .before .before .before .before .before .before .before .args .depths .now) (c .before .before .before .before .before .before .before .before .before .before .before .before .before .before .before .before .before .pre .1 .js) ((c .before .before .before .before .before .before .before .before .before .before .before .before .before .before .before .before .before .args .own) / 2) (eqb ((c .before .before .before .before .before .before .before .before .before .before .before .before .before .before .before .before .before .args .own) % 2) 1) (c .before .before .before .before .before .before .before .before .before .before .before .before .before .before .before .before .before .pre .1 .chain)))
+
 levels-requires : tie.Need-levels-requires
 levels-requires c κs = search needs
 
-lay-requires : tie.Need-lay-requires
-lay-requires c κs = record { within = ((c .before .before .before .before .before .before .before .before .before .before .before .before .before .before .before .before .before .pre .0 .within)); marked = ((c .before .before .before .before .before .before .before .before .before .before .before .before .before .before .before .before .before .pre .0 .marked)); deep = ((c .before .before .before .before .before .before .before .before .before .before .before .before .before .before .before .before .before .pre .0 .deep)); keyed = ((c .before .before .before .before .before .before .before .before .before .before .before .before .before .before .before .before .before .pre .0 .keyed)); small = ((c .before .before .before .before .before .before .before .before .before .before .before .before .before .before .before .before .before .pre .0 .small)); few = ((c .levels .ensures .1)); js = ((c .before .before .before .before .before .before .before .before .before .before .before .before .before .before .before .before .before .pre .1 .js)); chain = ((c .before .before .before .before .before .before .before .before .before .before .before .before .before .before .before .before .before .pre .1 .chain)); known = head-known ((c .before .before .before .before .before .before .before .before .before .before .before .before .before .before .before .before .before .args .s .now)) ((c .before .before .before .before .before .before .before .before .before .before .before .before .before .before .before .before .before .args .table .now)) ((c .before .before .before .before .before .before .before .before .before .before .before .before .before .before .before .before .before .args .i)) ((c .before .before .before .before .before .before .before .before .before .before .before .before .before .before .before .before .before .args .own)) [] [] [] 0 ((c .before .before .before .before .before .before .before .before .before .before .before .before .before .before .before .before .before .pre .2)) ((c .before .before .before .before .before .before .before .before .before .before .before .before .before .before .before .before .before .pre .3)) (not-false _ ((c .before .before .before .before .if3 .left))) (first-as ((c .before .before .before .before .before .before .before .before .wide .ensures .0)) ((c .before .before .before .before .before .before .before .multi-line .ensures)) ((c .before .before .before .before .before .first-at .ensures))) }
+object-requires : tie.Need-object-requires
+object-requires c κs = (record { within = ((c .before .before .before .before .before .before .before .before .before .before .before .before .before .before .before .before .before .before .before .before .pre .0 .within)); marked = ((c .before .before .before .before .before .before .before .before .before .before .before .before .before .before .before .before .before .before .before .before .pre .0 .marked)); deep = ((c .before .before .before .before .before .before .before .before .before .before .before .before .before .before .before .before .before .before .before .before .pre .0 .deep)); keyed = ((c .before .before .before .before .before .before .before .before .before .before .before .before .before .before .before .before .before .before .before .before .pre .0 .keyed)); small = ((c .before .before .before .before .before .before .before .before .before .before .before .before .before .before .before .before .before .before .before .before .pre .0 .small)); few = ((c .before .before .before .levels .ensures .1)); js = ((c .before .before .before .before .before .before .before .before .before .before .before .before .before .before .before .before .before .before .before .before .pre .1 .js)); chain = ((c .before .before .before .before .before .before .before .before .before .before .before .before .before .before .before .before .before .before .before .before .pre .1 .chain)); known = head-known ((c .before .before .before .before .before .before .before .before .before .before .before .before .before .before .before .before .before .before .before .before .args .s .now)) ((c .before .before .before .before .before .before .before .before .before .before .before .before .before .before .before .before .before .before .before .before .args .table .now)) ((c .before .before .before .before .before .before .before .before .before .before .before .before .before .before .before .before .before .before .before .before .args .i)) ((c .before .before .before .before .before .before .before .before .before .before .before .before .before .before .before .before .before .before .before .before .args .own)) [] [] [] 0 ((c .before .before .before .before .before .before .before .before .before .before .before .before .before .before .before .before .before .before .before .before .pre .2)) ((c .before .before .before .before .before .before .before .before .before .before .before .before .before .before .before .before .before .before .before .before .pre .3)) (not-false _ ((c .before .before .before .before .before .before .before .if3 .left))) (first-as ((c .before .before .before .before .before .before .before .before .before .before .before .wide .ensures .0)) ((c .before .before .before .before .before .before .before .before .before .before .multi-line .ensures)) ((c .before .before .before .before .before .before .before .before .first-at .ensures))) }, (c .before .before .if7 .taken))
 
 same-length-2 : tie.Need-same-length-2
-same-length-2 c = search needs
+same-length-2 c = omega (arith, (c .before .before .before .before .object .ensures .long))
 
 same-length-3 : tie.Need-same-length-3
 same-length-3 c = search needs
 
-returns-4 : tie.Need-returns-4
-returns-4 c = head-by _ _ _ _ _ _ _ _ ((c .before .before .before .before .before .before .before .before .before .before .before .before .before .before .before .before .before .before .before .before .before .before .pre .2)) ((c .before .before .before .before .before .before .before .before .before .before .before .before .before .before .before .before .before .before .before .before .before .before .pre .3)) (not-false _ ((c .before .before .before .before .before .before .before .before .before .if3 .left))) (first-as ((c .before .before .before .before .before .before .before .before .before .before .before .before .before .wide .ensures .0)) ((c .before .before .before .before .before .before .before .before .before .before .before .before .multi-line .ensures)) ((c .before .before .before .before .before .before .before .before .before .before .first-at .ensures))) (laid-as ((c .before .before .before .before .before .before .before .before .before .before .before .before .before .wide .ensures .0)) ((c .before .before .before .before .before .levels .ensures .0)) ((c .before .before .before .before .before .before .before .before .before .before .before .before .multi-line .ensures)) ((c .before .before .before .before .lay .ensures)))
+returns-6 : tie.Need-returns-6
+returns-6 c = head-by _ _ _ _ _ _ _ _ (c .before .before .before .before .before .before .before .before .before .before .before .before .before .before .before .before .before .before .before .before .before .before .before .before .before .pre .2) (c .before .before .before .before .before .before .before .before .before .before .before .before .before .before .before .before .before .before .before .before .before .before .before .before .before .pre .3) (not-false _ (c .before .before .before .before .before .before .before .before .before .before .before .before .if3 .left)) (first-as (c .before .before .before .before .before .before .before .before .before .before .before .before .before .before .before .before .wide .ensures .0) (c .before .before .before .before .before .before .before .before .before .before .before .before .before .before .before .multi-line .ensures) (c .before .before .before .before .before .before .before .before .before .before .before .before .before .first-at .ensures)) (laid-as (c .before .before .before .before .before .before .before .before .before .before .before .before .before .before .before .before .wide .ensures .0) (c .before .before .before .before .before .before .before .before .levels .ensures .0) (c .before .before .before .before .before .before .before .before .before .before .before .before .before .before .before .multi-line .ensures) (c .before .before .before .before .object .ensures))
+
+lay-requires : tie.Need-lay-requires
+lay-requires c κs = (record { within = (c .before .before .before .before .before .before .before .before .before .before .before .before .before .before .before .before .before .before .before .pre .0 .within); marked = (c .before .before .before .before .before .before .before .before .before .before .before .before .before .before .before .before .before .before .before .pre .0 .marked); deep = (c .before .before .before .before .before .before .before .before .before .before .before .before .before .before .before .before .before .before .before .pre .0 .deep); js = (c .before .before .before .before .before .before .before .before .before .before .before .before .before .before .before .before .before .before .before .pre .1 .js); chain = (c .before .before .before .before .before .before .before .before .before .before .before .before .before .before .before .before .before .before .before .pre .1 .chain) }, (c .before .before .levels .ensures .1), head-known ((c .before .before .before .before .before .before .before .before .before .before .before .before .before .before .before .before .before .before .before .args .s .now)) ((c .before .before .before .before .before .before .before .before .before .before .before .before .before .before .before .before .before .before .before .args .table .now)) ((c .before .before .before .before .before .before .before .before .before .before .before .before .before .before .before .before .before .before .before .args .i)) ((c .before .before .before .before .before .before .before .before .before .before .before .before .before .before .before .before .before .before .before .args .own)) [] [] [] 0 ((c .before .before .before .before .before .before .before .before .before .before .before .before .before .before .before .before .before .before .before .pre .2)) ((c .before .before .before .before .before .before .before .before .before .before .before .before .before .before .before .before .before .before .before .pre .3)) (not-false _ ((c .before .before .before .before .before .before .if3 .left))) (first-as ((c .before .before .before .before .before .before .before .before .before .before .wide .ensures .0)) ((c .before .before .before .before .before .before .before .before .before .multi-line .ensures)) ((c .before .before .before .before .before .before .before .first-at .ensures))), (c .before .if7 .left), (c .before .before .before .before .before .before .before .before .before .before .before .before .before .before .before .before .before .before .before .pre .0 .small))
+
+same-length-4 : tie.Need-same-length-4
+same-length-4 c = omega (arith, (c .before .before .lay .ensures .long))
+
+returns-7 : tie.Need-returns-7
+returns-7 c = head-by _ _ _ _ _ _ _ _ (c .before .before .before .before .before .before .before .before .before .before .before .before .before .before .before .before .before .before .before .before .before .before .pre .2) (c .before .before .before .before .before .before .before .before .before .before .before .before .before .before .before .before .before .before .before .before .before .before .pre .3) (not-false _ (c .before .before .before .before .before .before .before .before .before .if3 .left)) (first-as (c .before .before .before .before .before .before .before .before .before .before .before .before .before .wide .ensures .0) (c .before .before .before .before .before .before .before .before .before .before .before .before .multi-line .ensures) (c .before .before .before .before .before .before .before .before .before .before .first-at .ensures)) (laid-as (c .before .before .before .before .before .before .before .before .before .before .before .before .before .wide .ensures .0) (c .before .before .before .before .before .levels .ensures .0) (c .before .before .before .before .before .before .before .before .before .before .before .before .multi-line .ensures) (c .before .before .lay .ensures))
 
 pub headed-spec : {M : Type 1} → statement M
 headed-spec =
@@ -100,8 +124,15 @@ headed-spec =
     item-requires
     same-length
     returns-3
+    attribute-requires
+    returns-4
+    name-requires
+    returns-5
     levels-requires
-    lay-requires
+    object-requires
     same-length-2
     same-length-3
-    returns-4)
+    returns-6
+    lay-requires
+    same-length-4
+    returns-7)
