@@ -5,4 +5,5 @@ pub mod Leaves
 pub mod Walks
 pub mod Callings
 pub mod Heads
+pub mod Lasts
 pub mod Keys

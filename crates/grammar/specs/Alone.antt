@@ -45,6 +45,10 @@ pub record NextAt (s : List ℕ) (p : ℕ) (lines : Bool) (r : Head) : Type 0 wh
   pub low : p ≤ r .end
   pub high : r .end ≤ p + (length s - p)
 
+-- where `r` is true nothing follows an operand that ends at p
+pub record Lasting (s : List ℕ) (p : ℕ) (lines r : Bool) : Type 0 where
+  pub none : r ≡ true → Follow s p lines 0
+
 -- `r` is the sign at q: 1 `=`, but neither `=>` nor `==`; 2 `:`, but not `::`
 pub record SignOf (s : List ℕ) (q r : ℕ) : Type 0 where
   pub equals : r ≡ 1 → equalsTo s q ≡ q + 1

@@ -22,7 +22,7 @@ ghost use Rattle.lexis.specs.Bytes.{isDigit};
 ghost use Rattle.lexis.specs.Trivia.{gapTo};
 ghost use Rattle.grammar.specs.Moves.{keyTo, lone};
 ghost use Rattle.grammar.specs.Hcl.{isBroken};
-ghost use Rattle.grammar.specs.Alone.{headOf, HeadAt, NextAt, keyOf, SignOf, KeyAt};
+ghost use Rattle.grammar.specs.Alone.{headOf, HeadAt, Lasting, NextAt, keyOf, SignOf, KeyAt};
 ghost use Rattle.grammar.specs.Said.{TermAt, PartAt, Follow, byteBeyond, callsAt, wordKind, forBeyond, brokenAt, colonAt};
 
 // A kind, and the end of its token where that is looked at; else the place itself.
@@ -238,10 +238,33 @@ pub fn follow(s: &[u8], p: usize, lines: bool) -> u16
     }
 }
 
+// Whether the byte at p tells by itself that nothing follows: a closer, a comma, or a line's end where that is no trivia. Most operands end so.
+fn is_last(s: &[u8], p: usize, lines: bool) -> bool
+    ensures { λ r. ⌜ Lasting (now (s .entry)) p lines r ⌝ }
+{
+    let b = byte_at(s, p);
+    if b == 32 {
+        return false;
+    }
+    if b == 10 {
+        return !lines;
+    }
+    match b {
+        41 => true,
+        44 => true,
+        93 => true,
+        125 => true,
+        _ => false,
+    }
+}
+
 // The same, with the end of a binary operator.
 pub fn next_at(s: &[u8], p: usize, lines: bool) -> Head
     ensures { λ r. ⌜ NextAt (now (s .entry)) p lines r ⌝ }
 {
+    if is_last(s, p, lines) {
+        return headed(Kind::NONE, p);
+    }
     let g = skip(s, p, lines);
     let at = g.at;
     if g.unclosed {
