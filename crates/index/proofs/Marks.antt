@@ -4,7 +4,7 @@ use mathlib.Core.Path.{_≡_, refl, sym, ap, _∙_}
 use mathlib.Core.List.{List, [], _∷_, _++_}
 use mathlib.Core.Bool.{Bool, true, false}
 use native.Mathlib.Omega.{arith}
-use lib.ListN.{length, drop}
+use lib.ListN.{length, getD, drop}
 use lib.Dec.{eqb}
 use borrow.Author.Tests.{eq-eqb, ne-eqb}
 use Rattle.lexis.specs.Bytes.{byteAt, isStart, isRest, run, runTo, Byte}
@@ -12,7 +12,7 @@ use Rattle.lexis.specs.Word.{identTo}
 use Rattle.lexis.specs.Heredoc.{freshAt}
 use Rattle.lexis.specs.String.{Unit, is, not, quoted, Text, unit, unitIn, textAt, unpacked, pieceOf, UnitHere}
 use Rattle.lexis.specs.Keys.{restOf}
-use Rattle.lexis.specs.RunLaws.{inside, clash, run-on, run-stop}
+use Rattle.lexis.specs.RunLaws.{default, inside, clash, run-on, run-stop}
 use Rattle.lexis.specs.declared.string.Piece.{Piece}
 use Rattle.lexis.proofs.Units.{Bytewise, Sound, unit-sound}
 use Rattle.lexis.proofs.Texts.{step, stop, bytewise-drop}
@@ -73,6 +73,10 @@ module _ {s : List ℕ} {m₀ : ℕ} {l : List ℕ} {i m b : ℕ} (g : Mixing m�
 
     pub word-more : {r : ℕ} → (r ≡ mixed m b) × (r ≤ 65535) → Mixing m₀ l (restOf (drop (i + 1) s)) r
     word-more f = mix-more g b (restOf (drop (i + 1) s)) (rw (h .is) (rest-on s i (rw (h .is) at e))) (f .0) (f .1)
+
+-- a byte that stands within the source
+pub byte-here : (s : List ℕ) (i : ℕ) → i < length s → getD s i 0 ≤ 255 → Byte s i (getD s i 0)
+byte-here s i h l = record { is = default s i 0 256 h; low = omega arith; here = omega arith }
 
 -- the same of a word whose end is known
 pub record Wording (s : List ℕ) (p e m i : ℕ) : Type 0 where

@@ -75,8 +75,7 @@ pub fn word_to(s: &[u8], p: usize, e: usize) -> u16
     let mut m: u32 = 0;
     let mut i = p;
     while i < e {
-        let b = byte_at(s, i);
-        m = mix(m, b as u32);
+        m = mix(m, s[i] as u32);
         i += 1;
     }
     m as u16
