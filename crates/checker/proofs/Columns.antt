@@ -103,11 +103,11 @@ module _ (r : Record) (u : ℕ) where
 -- ---- by the row that the code reads
 
 module _ {t : List ℕ} {i : ℕ} {r : Row} (u : ℕ) {x : Used} (h : RowHere t i r) where
-  pub columns-string : {m n : ℕ} → r .kind ≡ 6 → m ≡ r .end - r .start → n ≡ m - 2 → x ≡ usedBy (r .flag) (r .from) (r .length) (r .start + 1) n u → Columns (rowAt t i) u x
-  columns-string {m} {n} k e f g = rw (g, f, e, h .flag, h .from, h .length, h .start, h .end) (string-as (rowAt t i) u (sym (h .kind) ∙ k))
+  pub columns-string : {m n : ℕ} → (rowAt t i) .kind ≡ 6 → m ≡ r .end - r .start → n ≡ m - 2 → x ≡ usedBy (r .flag) (r .from) (r .length) (r .start + 1) n u → Columns (rowAt t i) u x
+  columns-string {m} {n} k e f g = rw (g, f, e, h .flag, h .from, h .length, h .start, h .end) (string-as (rowAt t i) u k)
 
-  pub columns-piece : {m : ℕ} → r .kind ≡ 9 → m ≡ r .end - r .start → x ≡ usedBy (r .flag) (r .from) (r .length) (r .start) m u → Columns (rowAt t i) u x
-  columns-piece {m} k e g = rw (g, e, h .flag, h .from, h .length, h .start, h .end) (piece-as (rowAt t i) u (sym (h .kind) ∙ k))
+  pub columns-piece : {m : ℕ} → (rowAt t i) .kind ≡ 9 → m ≡ r .end - r .start → x ≡ usedBy (r .flag) (r .from) (r .length) (r .start) m u → Columns (rowAt t i) u x
+  columns-piece {m} k e g = rw (g, e, h .flag, h .from, h .length, h .start, h .end) (piece-as (rowAt t i) u k)
 
-  pub columns-none : (r .kind ≡ 6 → ⊥) → (r .kind ≡ 9 → ⊥) → x ≡ usedBy 0 (r .from) (r .length) 0 0 u → Columns (rowAt t i) u x
-  columns-none m n g = rw (g, h .from, h .length) (other-as (rowAt t i) u (λ e. m (h .kind ∙ e)) (λ e. n (h .kind ∙ e)))
+pub columns-none : (t : List ℕ) (i : ℕ) {a b : ℕ} (u : ℕ) {x : Used} → a ≡ (rowAt t i) .from → b ≡ (rowAt t i) .length → ((rowAt t i) .kind ≡ 6 → ⊥) → ((rowAt t i) .kind ≡ 9 → ⊥) → x ≡ usedBy 0 a b 0 0 u → Columns (rowAt t i) u x
+columns-none t i u e f m n g = rw (g, e, f) (other-as (rowAt t i) u m n)

@@ -180,16 +180,16 @@ module _ (s t : List ℕ) (i : ℕ) (m D : List ℕ) (j p v : ℕ) where
 
     pub item-sign-no : ¬ (g .kind ≤ 1) → Laid D′ false
     item-sign-no n =
-        let (a, b) = h .none n in
+        let (a, b) = h .neither n in
         direct-stop s t i (v / 2) (eqb (v % 2) 1) (no-equals a) (key-code .move) (key-code .colon) (b .bad (λ z. omega (arith, z)) (under (v / 2) (eqb (v % 2) 1) (wantOf ((rowAt t i) .kind))) ((rowAt t i) .start) (no-keys ((rowAt t i) .kind)))
 
     pub item-sign : g .kind ≤ 1 → Item D′ (behind (g .kind)) (g .at) x
     item-sign l = go (g .kind) refl l
       where
         go : (k : ℕ) → g .kind ≡ k → k ≤ 1 → Item D′ (behind k) (g .at) x
-        go zero e l = direct-fork s t i (v / 2) (eqb (v % 2) 1) w (key-code .fork) (key-code .equals) (h .equals e .good refl (under (v / 2) (eqb (v % 2) 1) (wantOf ((rowAt t i) .kind))) ((rowAt t i) .start) (no-keys ((rowAt t i) .kind)))
+        go zero e l = direct-fork s t i (v / 2) (eqb (v % 2) 1) w (key-code .fork) (key-code .equals) (h .first e .good refl (under (v / 2) (eqb (v % 2) 1) (wantOf ((rowAt t i) .kind))) ((rowAt t i) .start) (no-keys ((rowAt t i) .kind)))
         go (suc zero) e l =
-            let (a, b) = h .colon e in
+            let (a, b) = h .second e in
             direct-move s t i (v / 2) (eqb (v % 2) 1) (no-equals a) (key-code .move) (key-code .colon) (b .good refl (under (v / 2) (eqb (v % 2) 1) (wantOf ((rowAt t i) .kind))) ((rowAt t i) .start) (no-keys ((rowAt t i) .kind)))
         go (suc (suc k)) e l = absurd (omega arith)
 

@@ -5,16 +5,17 @@ use mathlib.Core.List.{List, [], _∷_}
 use mathlib.Core.Bool.{Bool, true, false, cond, not, _&&_, _||_}
 use mathlib.Core.Option.{none, some}
 use native.Mathlib.Omega.{arith}
-use lib.ListN.{length}
+use lib.ListN.{length, drop}
 use lib.Dec.{eqb}
-use borrow.Author.Tests.{eq-eqb, ne-eqb, lt-ltb, le-ltb}
+use borrow.Author.Tests.{eq-eqb, ne-eqb, eqb-true, lt-ltb, le-ltb}
 use Rattle.lexis.specs.declared.trivia.Stop.{Stop}
-use Rattle.lexis.specs.Bytes.{byteAt, isForeign, stands, Ran}
-use Rattle.lexis.specs.Trivia.{Stopped}
+use Rattle.lexis.specs.Bytes.{byteAt, isForeign, begins, stands, Ran}
+use Rattle.lexis.specs.Trivia.{stopAt, Stopped}
+use Rattle.lexis.specs.Trivia as trivia
 use Rattle.lexis.specs.Word.{identTo}
 use Rattle.lexis.specs.Operator.{isMark, markTo, equalsTo, bangTo}
 use Rattle.lexis.specs.Keys.{among}
-use Rattle.lexis.specs.RunLaws.{stands-one}
+use Rattle.lexis.specs.RunLaws.{clash, and-left, stands-one, stands-inside}
 use Rattle.grammar.specs.declared.moves.Went.{Went}
 use Rattle.grammar.specs.Kinds.{Foreign, Unexpected}
 use Rattle.grammar.specs.Moves.{Under, Step, to, no, then, place, when, unexpected, token, Atom, gap, ident, mark, opens, unless, stop, ended, fresh, any, line, here, Want, keysOf, behindKey, skip, marks, level, opening, stopStep, stopping, atom, Move, walk}
@@ -23,7 +24,7 @@ use Rattle.grammar.specs.Code.{moveAt}
 use Rattle.grammar.specs.Said.{went, Moved, Made, Walked}
 use Rattle.checker.specs.Program.{ownMove, moveIn}
 use Rattle.checker.specs.Leaf.{GoneAt}
-use Rattle.checker.specs.LeafMore.{Past, Comes, Goes, SignBy}
+use Rattle.checker.specs.LeafMore.{Past, Comes, Goes, OneBy, SignBy, AfterBy}
 
 -- ---- steps
 
@@ -302,7 +303,7 @@ module _ (s : List ℕ) (b : Under) (σ : ℕ) where
   unfolding walk atom
   dot-no {p} h z = then-none (marks s (46 ∷ []) [] p) to (mark-no 46 h z)
 
--- ---- the sign of an item
+-- ---- one of two moves
 
 module _ {s : List ℕ} {m : Move} {p : ℕ} {r : Went} (g : Goes s m p r) where
   goes-yes : r .kind ≡ 0 → Goes s m p (went 0 (r .at))
@@ -311,24 +312,83 @@ module _ {s : List ℕ} {m : Move} {p : ℕ} {r : Went} (g : Goes s m p r) where
   goes-no : ¬ (r .kind ≡ 0) → Goes s m p (went 1 p)
   goes-no n = record { good = λ y. absurd (omega arith); bad = λ y. g .bad n }
 
-module _ {s : List ℕ} {p : ℕ} {e : Went} (g : Goes s (ownMove 2) p e) where
-  pub sign-equals : e .kind ≡ 0 → SignBy s p e
-  sign-equals z = record { equals = λ y. goes-yes g z; colon = λ y. absurd (omega arith); none = λ n. absurd (n (omega arith)) }
+module _ {s : List ℕ} {m n : Move} {p : ℕ} {e : Went} (g : Goes s m p e) where
+  one-first : e .kind ≡ 0 → OneBy s m n p e
+  one-first z = record { first = λ y. goes-yes g z; second = λ y. absurd (omega arith); neither = λ n. absurd (n (omega arith)) }
 
-  module _ (n : ¬ (e .kind ≡ 0)) {c r : Went} (h : Goes s (ownMove 3) p c) where
-    pub sign-colon : c .kind ≡ 0 → r ≡ went 1 (c .at) → SignBy s p r
-    sign-colon z f =
+  module _ (no : ¬ (e .kind ≡ 0)) {c r : Went} (h : Goes s n p c) where
+    one-second : c .kind ≡ 0 → r ≡ went 1 (c .at) → OneBy s m n p r
+    one-second z f =
         let k : r .kind ≡ 1 = ap (λ (w : Went). w .kind) f in
         record {
-          equals = λ y. absurd (omega arith);
-          colon = λ y. (goes-no g n, subst (λ (o : ℕ). Goes s (ownMove 3) p (went 0 o)) (sym (ap (λ (w : Went). w .at) f)) (goes-yes h z));
-          none = λ y. absurd (y (omega arith));
+          first = λ y. absurd (omega arith);
+          second = λ y. (goes-no g no, subst (λ (o : ℕ). Goes s n p (went 0 o)) (sym (ap (λ (w : Went). w .at) f)) (goes-yes h z));
+          neither = λ y. absurd (y (omega arith));
         }
 
-    pub sign-none : ¬ (c .kind ≡ 0) → r ≡ went 2 p → SignBy s p r
-    sign-none z f =
+    one-neither : ¬ (c .kind ≡ 0) → r ≡ went 2 p → OneBy s m n p r
+    one-neither z f =
         let k : r .kind ≡ 2 = ap (λ (w : Went). w .kind) f in
-        record { equals = λ y. absurd (omega arith); colon = λ y. absurd (omega arith); none = λ y. (goes-no g n, goes-no h z) }
+        record { first = λ y. absurd (omega arith); second = λ y. absurd (omega arith); neither = λ y. (goes-no g no, goes-no h z) }
+
+-- ---- the sign of an item, and what stands behind it
+
+four : ¬ (_≡_ {A = ℕ} 4 0)
+four e = omega (arith, e)
+
+module _ {s : List ℕ} {p : ℕ} {g : Went} (sp : Moved s p false g) where
+  pub sign-no : {r : Went} → ¬ (g .kind ≡ 0) → r ≡ went 2 p → SignBy s p r
+  sign-no n f = one-neither (equals-no sp n) n (colon-no sp n) n f
+
+  module _ (z : g .kind ≡ 0) {e : ℕ} (h : Ran s (g .at) (equalsTo s (g .at)) e) where
+    pub sign-equals : {r : Went} → ¬ (e ≡ g .at) → r ≡ went 0 e → SignBy s p r
+    sign-equals n f = one-first (equals-past sp z h (past-some n f)) (ap (λ (w : Went). w .kind) f)
+
+    module _ (y : e ≡ g .at) {d : ℕ} (i : Ran s (g .at) (markTo (58 ∷ []) [] s (g .at)) d) where
+      pub sign-colon : {r : Went} → ¬ (d ≡ g .at) → r ≡ went 1 d → SignBy s p r
+      sign-colon n f = one-second (equals-past sp z h (past-none y refl)) four (colon-past sp z i (past-some n refl)) refl f
+
+      pub sign-none : {r : Went} → d ≡ g .at → r ≡ went 2 p → SignBy s p r
+      sign-none n f = one-neither (equals-past sp z h (past-none y refl)) four (colon-past sp z i (past-none n refl)) four f
+
+-- nothing ends an item where a `}` stands
+brace-stop : (p : ℕ) (xs : List ℕ) → begins (125 ∷ []) xs ≡ true → trivia.stop p xs ≡ stopAt 0 p
+unfolding begins
+brace-stop p [] e = clash (sym e)
+brace-stop p (x ∷ xs) e = rw (eqb-true x 125 (and-left (eqb x 125) true e))
+
+brace-none : (s : List ℕ) (p : ℕ) → stands (125 ∷ []) s p ≡ true → place (stopping s p) ≡ none
+brace-none s p e = rw (brace-stop p (drop p s) e) (unexpected-none s p)
+
+brace-past : (s : List ℕ) (p : ℕ) → stands (125 ∷ []) s p ≡ true → Ran s p (markTo (125 ∷ []) [] s p) (p + 1)
+brace-past s p e = record { is = rw e; low = omega arith; high = omega (arith, stands-inside (125 ∷ []) s p e) }
+
+module _ {s : List ℕ} {p : ℕ} {g : Went} (sp : Moved s p false g) where
+  pub after-no : {r : Went} → ¬ (g .kind ≡ 0) → r ≡ went 2 p → AfterBy s p r
+  after-no n f = one-neither (more-no sp n) n (closing-no sp n) n f
+
+  module _ (z : g .kind ≡ 0) where
+    pub after-brace : {r : Went} → stands (125 ∷ []) s (g .at) ≡ true → r ≡ went 1 (g .at + 1) → AfterBy s p r
+    after-brace h f =
+        let c : Comes (then (stopping s (g .at)) (skip s true)) (went 4 (g .at)) = record { good = λ y. absurd (four y); bad = λ y. then-none (stopping s (g .at)) (skip s true) (brace-none s (g .at) h) } in
+        one-second (more-stuck sp z c four) four (closing-here sp z h refl) refl f
+
+    module _ (h : stands (125 ∷ []) s (g .at) ≡ false) {x : Stop} (st : Stopped s (g .at) x) where
+      pub after-none : {r : Went} → ¬ (x .how ≡ 1) → r ≡ went 2 p → AfterBy s p r
+      after-none n f = let c = ended-not st n refl in one-neither (more-stuck sp z c four) four (closing-stuck sp z c h four) four f
+
+      module _ (e : x .how ≡ 1) {w : Went} (m : Moved s (x .at) true w) where
+        pub after-gap : {r : Went} → ¬ (w .kind ≡ 0) → r ≡ went 2 p → AfterBy s p r
+        after-gap n f = let c = ended-past st e m in one-neither (more-stuck sp z c n) n (closing-stuck sp z c h n) n f
+
+        module _ (y : w .kind ≡ 0) where
+          pub after-shut : {r : Went} → stands (125 ∷ []) s (w .at) ≡ true → r ≡ went 1 (w .at + 1) → AfterBy s p r
+          after-shut b f =
+              let c = ended-past st e m in
+              one-second (more-brace sp z c y b refl) four (closing-past sp z c h y (brace-past s (w .at) b) (past-some (λ q. omega (arith, q)) refl)) refl f
+
+          pub after-more : stands (125 ∷ []) s (w .at) ≡ false → AfterBy s p w
+          after-more b = one-first (more-here sp z (ended-past st e m) y b) y
 
 -- ---- by its number
 

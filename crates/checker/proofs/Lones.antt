@@ -21,7 +21,7 @@ use Rattle.grammar.specs.Code.{classOf}
 use Rattle.checker.specs.declared.lone.Memo.{Memo}
 use Rattle.checker.specs.declared.lone.Lone.{Lone}
 use Rattle.checker.specs.Program.{classIn, isEntry}
-use Rattle.checker.specs.Lone.{signAt, signed, Known, SpacesTo, CloserAt, Covered, OneOf, Behind, AloneAt}
+use Rattle.checker.specs.Lone.{signAt, signed, Known, SpacesTo, CloserAt, Covered, OneOf, Behind}
 
 -- ---- two bytes, one by one
 
@@ -304,33 +304,12 @@ module _ {s : List ℕ} {q e : ℕ} (i : Ran s q (equalsTo s q) e) where
 
 -- ---- a key
 
-off : (b : Bool) (x y : Class) → isEntry x ≡ false → isEntry y ≡ false → isEntry (cond b x y) ≡ false
-off true x y e f = e
-off false x y e f = f
+module _ (s : List ℕ) {k q : ℕ} (p : SpacesTo s k q) where
+  from-key : signed s q ≡ signed s k
+  from-key = ap (λ (g : Gap). signAt s (g .at)) (p .same)
 
-item-class : (c : ℕ) → classIn c ≡ entry → c ≡ 7
-item-class c e = go (eqb c 2) (eqb c 3) (eqb c 6) (eqb c 7) refl (ap isEntry e)
-  where
-    none-of : isEntry (classOf c) ≡ false
-    none-of = off (eqb c 0) _ _ refl (off (eqb c 1) _ _ refl (off (eqb c 4) _ _ refl (off (eqb c 5) _ _ refl (off (eqb c 9) _ _ refl (off (eqb c 10) _ _ refl (off (eqb c 12) _ _ refl refl))))))
-
-    go : (a b d f : Bool) → eqb c 7 ≡ f → isEntry (cond a key (cond b value (cond d term (cond f entry (classOf c))))) ≡ true → c ≡ 7
-    go a b d true g h = eqb-true c 7 g
-    go a b d false g h = clash (sym h ∙ off a _ _ refl (off b _ _ refl (off d _ _ refl none-of)))
-
-module _ {s : List ℕ} {c a : ℕ} {r : Lone} where
-  pub alone-other : {m : Memo} {y : Bool} → ¬ (c ≡ 7) → Known s m → r ≡ record { yes = y; memo = m } → AloneAt s c a r
-  alone-other {m} {y} n h e = record { yes = λ z. absurd (n (item-class c z)); known = subst (Known s) (sym (ap (λ (x : Lone). x .memo) e)) h }
-
-  pub alone-item : {x : Lone} → Behind s (keyTo s a) x → r ≡ x → AloneAt s c a r
-  alone-item h e = record { yes = λ z. ap (λ (o : Lone). o .yes) e ∙ h .yes; known = subst (Known s) (sym (ap (λ (o : Lone). o .memo) e)) (h .known) }
-
-module _ (s : List ℕ) (a : ℕ) {k q : ℕ} (e : k ≡ keyTo s a) (p : SpacesTo s k q) where
-  from-key : signed s q ≡ lone s a
-  from-key = ap (λ (g : Gap). signAt s (g .at)) (p .same ∙ ap (gapTo false s) e)
-
-  pub item-behind : {r : Lone} → Behind s q r → Behind s (keyTo s a) r
+  pub item-behind : {r : Lone} → Behind s q r → Behind s k r
   item-behind h = record { yes = h .yes ∙ from-key; known = h .known }
 
-  pub item-here : {b y : Bool} {m : Memo} → b ≡ stands (47 ∷ 42 ∷ []) s q → b ≡ false → y ≡ signAt s q → Known s m → Behind s (keyTo s a) (record { yes = y; memo = m })
+  pub item-here : {b y : Bool} {m : Memo} → b ≡ stands (47 ∷ 42 ∷ []) s q → b ≡ false → y ≡ signAt s q → Known s m → Behind s k (record { yes = y; memo = m })
   item-here f g i h = record { yes = i ∙ sym (ap (λ (g : Gap). signAt s (g .at)) (gap-here s q (p .ends) (sym f ∙ g))) ∙ from-key; known = h }

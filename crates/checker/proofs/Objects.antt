@@ -12,17 +12,17 @@ use Rattle.lexis.specs.Bytes.{Ran}
 use Rattle.lexis.specs.Operator.{markTo}
 use Rattle.engine.specs.Base.{has}
 use Rattle.grammar.specs.declared.moves.Went.{Went}
-use Rattle.grammar.specs.Moves.{Under, Move, gap, mark, opens, any, place, walk}
+use Rattle.grammar.specs.Moves.{Under, Move, gap, mark, opens, any, place, walk, keyTo}
 use Rattle.grammar.specs.Hcl.{under}
-use Rattle.grammar.specs.Said.{Moved}
+use Rattle.grammar.specs.Said.{went, Moved}
 use Rattle.grammar.specs.Published.{wantOf}
 use Rattle.grammar.specs.Code.{atoms, moveOf, operation, argument, class, otherwise}
 use Rattle.checker.specs.declared.pass.Passed.{Passed}
 use Rattle.checker.specs.declared.lone.Lone.{Lone}
 use Rattle.checker.specs.Rows.{rowAt}
 use Rattle.checker.specs.Program.{own, ownMove, codeIn, moveIn, beginIn, laidOut}
-use Rattle.checker.specs.LeafMore.{Goes}
-use Rattle.checker.specs.Lone.{AloneAt}
+use Rattle.checker.specs.LeafMore.{Goes, AfterBy}
+use Rattle.checker.specs.Lone.{Behind}
 use Rattle.checker.specs.Lay.{Passing, PassedBy, EndsAt, Laying, LaidBy}
 use Rattle.checker.proofs.Goings.{open-deep, open-on, open-no, any-on, any-no, shut-on, shut-no}
 use Rattle.checker.proofs.Lays.{no-keys, Known, known, Turn, turn-start, turn-other, turn-passing, lay-kid, lay-kid-no, lay-rep, lay-rep-no, next-of}
@@ -126,9 +126,9 @@ module _ (s t : List ℕ) (i left : ℕ) (lines : Bool) (m D : List ℕ) (j p : 
   -- ---- an item
 
   module _ {D′ K : List ℕ} {at x n : ℕ} where
-    pub ahead-passing : {K₀ : List ℕ} {r : Lone} → Ahead D′ K at x n → Laying t i m D K₀ j left → length K ≡ length K₀ → AloneAt s 7 at r → Passing s t i m D′ K x n 7 left at (r .yes)
-    ahead-passing (inl w) a e h = turn-passing s t i left lines w a e h
-    ahead-passing (inr (q, w, g)) a e h = turn-passing s t i left lines w a e h
+    pub ahead-passing : {K₀ : List ℕ} {k : ℕ} {r : Lone} → Ahead D′ K at x n → Laying t i m D K₀ j left → length K ≡ length K₀ → k ≡ keyTo s at → Behind s k r → Passing s t i m D′ K x n 7 left at k (r .yes)
+    ahead-passing (inl w) a e f h = turn-passing s t i left lines w a e f h
+    ahead-passing (inr (q, w, g)) a e f h = turn-passing s t i left lines w a e f h
 
     pub ahead-long : Ahead D′ K at x n → length D′ ≡ length D
     ahead-long (inl w) = w .long
@@ -152,19 +152,21 @@ module _ (s t : List ℕ) (i left : ℕ) (lines : Bool) (m D : List ℕ) (j p : 
 
   -- ---- behind it
 
-  module _ {D′ K : List ℕ} {q x n : ℕ} (w : At D′ K 250 q x n) {g : Went} (h : Goes s (ownMove 4) q g) where
+  module _ {D′ K : List ℕ} {q x n : ℕ} (w : At D′ K 250 q x n) {g : Went} (h : AfterBy s q g) where
     pub object-more : g .kind ≡ 0 → Ahead D′ K (g .at) x n
-    object-more z = inr (q, w, subst (λ (o : Move). place (walk s att start o q) ≡ some (g .at)) (sym (codes .more)) (h .good z att start (no-keys ((rowAt t i) .kind))))
+    object-more z = inr (q, w, subst (λ (o : Move). place (walk s att start o q) ≡ some (g .at)) (sym (codes .more)) (h .first z .good refl att start (no-keys ((rowAt t i) .kind))))
 
-    module _ (no : ¬ (g .kind ≡ 0)) where
-      behind : At D′ K 251 q x n
-      behind =
-          subst (λ (o : ℕ). At D′ K o q x n) (codes .last)
-          (turn-other s t i left lines w (no-op (codes .rep) (omega arith)) (no-op (codes .rep) (omega arith)) (no-op (codes .rep) (omega arith)) (subst (λ (o : Move). place (walk s att start o q) ≡ none) (sym (codes .more)) (h .bad no att start (no-keys ((rowAt t i) .kind)))))
+    behind : Goes s (ownMove 4) q (went 1 q) → At D′ K 251 q x n
+    behind b =
+        subst (λ (o : ℕ). At D′ K o q x n) (codes .last)
+        (turn-other s t i left lines w (no-op (codes .rep) (omega arith)) (no-op (codes .rep) (omega arith)) (no-op (codes .rep) (omega arith)) (subst (λ (o : Move). place (walk s att start o q) ≡ none) (sym (codes .more)) (b .bad (λ z. omega (arith, z)) att start (no-keys ((rowAt t i) .kind)))))
 
-      module _ {z : Went} (c : Goes s (ownMove 5) q z) where
-        pub object-open : ¬ (z .kind ≡ 0) → Laid D′ false
-        object-open y = direct-stop s t i left lines behind (codes .close) (codes .closing) (c .bad y att start (no-keys ((rowAt t i) .kind)))
+    pub object-open : ¬ (g .kind ≡ 1) → ¬ (g .kind ≡ 0) → Laid D′ false
+    object-open u v =
+        let (a, b) = h .neither (λ z. omega (arith, u, v, z)) in
+        direct-stop s t i left lines (behind a) (codes .close) (codes .closing) (b .bad (λ z. omega (arith, z)) att start (no-keys ((rowAt t i) .kind)))
 
-        pub object-end : {r : Bool} → z .kind ≡ 0 → EndsAt t i x (z .at) 0 r → Laid D′ r
-        object-end y o = direct-end s t i left lines (direct-move s t i left lines behind (codes .close) (codes .closing) (c .good y att start (no-keys ((rowAt t i) .kind)))) 0 (codes .fin) (codes .ends) o
+    pub object-end : {r : Bool} → g .kind ≡ 1 → EndsAt t i x (g .at) 0 r → Laid D′ r
+    object-end z o =
+        let (a, b) = h .second z in
+        direct-end s t i left lines (direct-move s t i left lines (behind a) (codes .close) (codes .closing) (b .good refl att start (no-keys ((rowAt t i) .kind)))) 0 (codes .fin) (codes .ends) o

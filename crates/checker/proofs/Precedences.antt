@@ -5,24 +5,23 @@ use mathlib.Core.Bool.{Bool, true, false}
 use native.Mathlib.Omega.{arith}
 use lib.Dec.{leb, ltb}
 use borrow.Author.Tests.{leb-true, leb-false, ltb-true, ltb-false}
-use Rattle.grammar.specs.Kinds.{tightOf, holdOf}
-use Rattle.checker.specs.Precedence.{Groups}
+use Rattle.checker.specs.Precedence.{grouped}
 
-pub groups-right : {n k t : ℕ} {b : Bool} → b ≡ true → t ≡ tightOf k → Groups n k b (ltb n t)
-groups-right e f = record { is = rw (e, f) }
+pub groups-right : (n m : ℕ) {b : Bool} → b ≡ true → ltb n m ≡ grouped n m b
+groups-right n m e = rw e
 
-pub groups-left : {n k t : ℕ} {b : Bool} → b ≡ false → t ≡ holdOf k → Groups n k b (leb n t)
-groups-left e f = record { is = rw (e, f) }
+pub groups-left : (n m : ℕ) {b : Bool} → b ≡ false → leb n m ≡ grouped n m b
+groups-left n m e = rw e
 
-module _ {n k : ℕ} {r : Bool} where
-  pub right-yes : Groups n k true r → r ≡ true → n < tightOf k
-  right-yes g e = ltb-true n (tightOf k) (sym (g .is) ∙ e)
+module _ (n m : ℕ) {r : Bool} where
+  pub right-yes : {t : ℕ} → r ≡ grouped n m true → m ≡ t → r ≡ true → n < t
+  right-yes g f e = omega (arith, ltb-true n m (sym g ∙ e))
 
-  pub right-no : Groups n k true r → r ≡ false → n < tightOf k → ⊥
-  right-no g e h = omega (arith, ltb-false n (tightOf k) (sym (g .is) ∙ e))
+  pub right-no : {t : ℕ} → r ≡ grouped n m true → m ≡ t → r ≡ false → n < t → ⊥
+  right-no g f e h = omega (arith, ltb-false n m (sym g ∙ e))
 
-  pub left-yes : {t : ℕ} → Groups n k false r → n ≡ t → r ≡ true → t ≤ holdOf k
-  left-yes g f e = omega (arith, leb-true n (holdOf k) (sym (g .is) ∙ e))
+  pub left-yes : {t h : ℕ} → r ≡ grouped n m false → n ≡ t → m ≡ h → r ≡ true → t ≤ h
+  left-yes g f i e = omega (arith, leb-true n m (sym g ∙ e))
 
-  pub left-none : {t : ℕ} → Groups n k false r → n ≡ t → r ≡ false → t ≤ holdOf k → ⊥
-  left-none g f e h = omega (arith, leb-false n (holdOf k) (sym (g .is) ∙ e))
+  pub left-none : {t h : ℕ} → r ≡ grouped n m false → n ≡ t → m ≡ h → r ≡ false → t ≤ h → ⊥
+  left-none g f i e l = omega (arith, leb-false n m (sym g ∙ e))

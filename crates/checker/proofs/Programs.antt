@@ -1,16 +1,17 @@
 -- The program: where a kind's begins, its instructions, what a child is under, what fits.
-use Prim.Native.Nat.{ℕ, zero, suc, _-_, _≤_, _<_}
+use Prim.Native.Nat.{ℕ, zero, suc, _-_, _/_, _%_, _≤_, _<_}
 use mathlib.Core.Path.{_≡_, refl, sym, ap, _∙_}
 use mathlib.Core.List.{List, _∷_}
-use mathlib.Core.Bool.{Bool, true, false, _||_}
+use mathlib.Core.Bool.{Bool, true, false}
 use native.Mathlib.Omega.{arith}
 use lib.ListN.{List·getD-eq-default}
 use lib.Dec.{T, eqb, leb}
-use borrow.Author.Tests.{eq-eqb, ne-eqb, lt-ltb, le-ltb, leb-true, leb-false}
+use borrow.Author.Tests.{ne-eqb, eqb-true, lt-ltb, le-ltb, leb-true, leb-false}
 use Rattle.engine.specs.Base.{Rec, allOf, has}
 use Rattle.grammar.specs.declared.shape.Instr.{Instr}
 use Rattle.grammar.specs.declared.shape.Child.{Child}
 use Rattle.grammar.specs.Code.{code, operation, argument, class, otherwise, begin, classOf}
+use Rattle.grammar.specs.Kinds.{tights, tightOf}
 use Rattle.grammar.specs.Moves.{Want, Under}
 use Rattle.grammar.specs.Layouts.{Class, key}
 use Rattle.grammar.specs.Hcl.{under, downs, bounds}
@@ -18,7 +19,7 @@ use Rattle.grammar.specs.Published.{kindsOf, More}
 use Rattle.grammar.specs.Said.{Instructed, ChildOf, wantOf}
 use Rattle.checker.specs.Program.{codeIn, classIn, beginIn}
 use Rattle.checker.specs.Leaf.{InstrAt, kindsBy, ChildAt}
-use Rattle.checker.specs.LeafMore.{wordIn, Shared, wants, wantedAs}
+use Rattle.checker.specs.LeafMore.{wordIn, Shared, seats, seatOf, bitOf, sitsAs}
 use Rattle.checker.proofs.Tables.{agree, agreed, unlisted}
 
 -- ---- starts
@@ -127,50 +128,46 @@ child-shared {c} {left} {lines} {r} n2 n3 n6 n7 h =
 
 -- ---- what fits
 
-past : (k : ℕ) → 43 ≤ k → wantedAs k ≡ 6
-past k h = List·getD-eq-default wants 6 {n = k} h
+past : (k : ℕ) → 43 ≤ k → seatOf k ≡ 0
+past k h = List·getD-eq-default seats 0 {n = k} h
 
-by-table : (f : ℕ → Bool) (xs : List ℕ) → f 6 ≡ false → T (agree (λ k. f (wantedAs k)) (has xs) 43) → T (allOf (λ x. leb x 42) xs) → (k : ℕ) → f (wantedAs k) ≡ has xs k
+by-table : (f : ℕ → Bool) (xs : List ℕ) → f 0 ≡ false → T (agree (λ k. f (seatOf k)) (has xs) 43) → T (allOf (λ x. leb x 42) xs) → (k : ℕ) → f (seatOf k) ≡ has xs k
 by-table f xs n t u k = go (leb 43 k) refl
   where
-    go : (b : Bool) → leb 43 k ≡ b → f (wantedAs k) ≡ has xs k
+    go : (b : Bool) → leb 43 k ≡ b → f (seatOf k) ≡ has xs k
     go true e = let h : 43 ≤ k = leb-true 43 k e in rw (past k h, n, unlisted xs 42 k u (omega arith))
-    go false e = agreed (λ k. f (wantedAs k)) (has xs) 43 t k (leb-false 43 k e)
+    go false e = agreed (λ k. f (seatOf k)) (has xs) 43 t k (leb-false 43 k e)
 
-fits-as : (w k : ℕ) → w < 5 → eqb (wantedAs k) w ≡ has (kindsBy w) k
-fits-as zero k h = by-table (λ x. eqb x 0) (kindsBy 0) refl tt tt k
-fits-as (suc zero) k h = by-table (λ x. eqb x 1) (kindsBy 1) refl tt tt k
-fits-as (suc (suc zero)) k h = by-table (λ x. eqb x 2) (kindsBy 2) refl tt tt k
-fits-as (suc (suc (suc zero))) k h = by-table (λ x. eqb x 3) (kindsBy 3) refl tt tt k
-fits-as (suc (suc (suc (suc zero)))) k h = by-table (λ x. eqb x 4) (kindsBy 4) refl tt tt k
-fits-as (suc (suc (suc (suc (suc w))))) k h = absurd (omega arith)
+sits-as : (w k : ℕ) → sitsAs w (seatOf k) ≡ has (kindsBy w) k
+sits-as zero k = by-table (sitsAs 0) (kindsBy 0) refl tt tt k
+sits-as (suc zero) k = by-table (sitsAs 1) (kindsBy 1) refl tt tt k
+sits-as (suc (suc zero)) k = by-table (sitsAs 2) (kindsBy 2) refl tt tt k
+sits-as (suc (suc (suc zero))) k = by-table (sitsAs 3) (kindsBy 3) refl tt tt k
+sits-as (suc (suc (suc (suc zero)))) k = by-table (sitsAs 4) (kindsBy 4) refl tt tt k
+sits-as (suc (suc (suc (suc (suc w))))) k = by-table (sitsAs 5) (kindsBy 5) refl tt tt k
 
--- from a key's want on
-by-key : (w : ℕ) → 5 ≤ w → kindsBy w ≡ kindsBy 5
-by-key zero h = absurd (omega arith)
-by-key (suc zero) h = absurd (omega arith)
-by-key (suc (suc zero)) h = absurd (omega arith)
-by-key (suc (suc (suc zero))) h = absurd (omega arith)
-by-key (suc (suc (suc (suc zero)))) h = absurd (omega arith)
-by-key (suc (suc (suc (suc (suc w))))) h = refl
+pub sits-in : {r : Bool} (w k : ℕ) {x : ℕ} → r ≡ sitsAs w x → x ≡ seatOf k → r ≡ has (kindsBy w) k
+sits-in w k e f = e ∙ ap (sitsAs w) f ∙ sits-as w k
 
--- a key is a bare key, or an expression that is no variable
-key-as : (k : ℕ) → (k ≡ 5 → ⊥) → (eqb (wantedAs k) 5 || eqb (wantedAs k) 0) ≡ has (kindsBy 5) k
-key-as k n = by-table (λ x. eqb x 5 || eqb x 0) (5 ∷ kindsBy 5) refl tt tt k ∙ rw (ne-eqb 5 k (λ e. n (sym e)))
+-- by the first arms of the match, and by its last
+pub sits-arm : {w n : ℕ} (x : ℕ) → w ≡ n → eqb (x / bitOf n % 2) 1 ≡ sitsAs w x
+sits-arm x e = rw e
 
-pub fits-variable : (w k : ℕ) → 5 ≤ w → k ≡ 5 → false ≡ has (kindsBy w) k
-fits-variable w k h e = rw (by-key w h, e)
+pub sits-last : (w x : ℕ) → 5 ≤ w → eqb (x / 512 % 2) 1 ≡ sitsAs w x
+sits-last zero x h = absurd (omega arith)
+sits-last (suc zero) x h = absurd (omega arith)
+sits-last (suc (suc zero)) x h = absurd (omega arith)
+sits-last (suc (suc (suc zero))) x h = absurd (omega arith)
+sits-last (suc (suc (suc (suc zero)))) x h = absurd (omega arith)
+sits-last (suc (suc (suc (suc (suc w))))) x h = refl
 
-module _ {r : ℕ} (w k : ℕ) (z : r ≡ wantedAs k) where
-  pub fits-low : w < 5 → eqb r w ≡ has (kindsBy w) k
-  fits-low h = ap (λ (x : ℕ). eqb x w) z ∙ fits-as w k h
+-- how tightly a kind binds stands in its seat
+tight-same : (k : ℕ) → eqb (seatOf k % 16) (tightOf k) ≡ true
+tight-same k = go (leb 43 k) refl
+  where
+    go : (b : Bool) → leb 43 k ≡ b → eqb (seatOf k % 16) (tightOf k) ≡ true
+    go true e = let h : 43 ≤ k = leb-true 43 k e in rw (past k h, List·getD-eq-default tights 0 {n = k} h)
+    go false e = agreed (λ k. eqb (seatOf k % 16) (tightOf k)) (λ k. true) 43 tt k (leb-false 43 k e)
 
-  module _ (h : 5 ≤ w) (n : k ≡ 5 → ⊥) where
-    fits-key : (eqb r 5 || eqb r 0) ≡ has (kindsBy w) k
-    fits-key = ap (λ (x : ℕ). eqb x 5 || eqb x 0) z ∙ rw (by-key w h) (key-as k n)
-
-    pub fits-bare : r ≡ 5 → eqb r 5 ≡ has (kindsBy w) k
-    fits-bare e = let y : eqb r 5 ≡ true = eq-eqb r 5 e in y ∙ rw y at fits-key
-
-    pub fits-other : (r ≡ 5 → ⊥) → eqb r 0 ≡ has (kindsBy w) k
-    fits-other e = rw (ne-eqb r 5 e) at fits-key
+pub seat-tight : (k : ℕ) {x : ℕ} → x ≡ seatOf k → x % 16 ≡ tightOf k
+seat-tight k e = ap (λ (x : ℕ). x % 16) e ∙ eqb-true (seatOf k % 16) (tightOf k) (tight-same k)

@@ -1,5 +1,5 @@
 -- What the small functions behind the leaves promise.
-use Prim.Native.Nat.{ℕ, _+_, _-_, _≤_}
+use Prim.Native.Nat.{ℕ, zero, suc, _+_, _-_, _/_, _%_, _≤_}
 use mathlib.Core.Path.{_≡_}
 use mathlib.Core.Bool.{Bool, false, cond, _&&_}
 use mathlib.Core.List.{List, [], _∷_}
@@ -29,14 +29,28 @@ pub record Shared (c left : ℕ) (lines : Bool) (r : Child) : Type 0 where
   pub is : ChildOf c left lines r
   pub known : r .want ≤ 3
 
--- by kind, what it is wanted as: an expression, a name, a part, a condition, an item, a key; 6 for 0, a piece and an interpolation
-abbrev pub wants : List ℕ
-wants =
-    6 ∷ 0 ∷ 0 ∷ 0 ∷ 0 ∷ 0 ∷ 0 ∷ 0 ∷ 0 ∷ 6 ∷ 6 ∷ 0 ∷ 0 ∷ 4 ∷ 5 ∷ 0 ∷ 0 ∷ 1 ∷ 0 ∷ 0 ∷ 3
-    ∷ 0 ∷ 0 ∷ 0 ∷ 0 ∷ 0 ∷ 0 ∷ 0 ∷ 0 ∷ 0 ∷ 0 ∷ 0 ∷ 0 ∷ 0 ∷ 0 ∷ 0 ∷ 0 ∷ 0 ∷ 2 ∷ 2 ∷ 2 ∷ 2 ∷ 2 ∷ []
+-- by kind: how tightly it binds and, in the bits behind that, where it may stand: as an expression, a name, a part, a condition, an item, a key
+abbrev pub seats : List ℕ
+seats =
+    0 ∷ 537 ∷ 537 ∷ 537 ∷ 537 ∷ 25 ∷ 537 ∷ 537 ∷ 537 ∷ 9 ∷ 9 ∷ 537 ∷ 537 ∷ 265 ∷ 521 ∷ 537 ∷ 537
+    ∷ 41 ∷ 537 ∷ 537 ∷ 137 ∷ 529 ∷ 537 ∷ 537 ∷ 535 ∷ 535 ∷ 535 ∷ 534 ∷ 534 ∷ 533 ∷ 533 ∷ 533 ∷ 533
+    ∷ 532 ∷ 532 ∷ 531 ∷ 530 ∷ 536 ∷ 73 ∷ 73 ∷ 73 ∷ 73 ∷ 73 ∷ []
 
-abbrev pub wantedAs : ℕ → ℕ
-wantedAs k = getD wants k 6
+-- 0 for what is no kind
+abbrev pub seatOf : ℕ → ℕ
+seatOf k = getD seats k 0
+
+-- the bit of a want's number
+abbrev pub bitOf : ℕ → ℕ
+bitOf zero = 16
+bitOf (suc zero) = 32
+bitOf (suc (suc zero)) = 64
+bitOf (suc (suc (suc zero))) = 128
+bitOf (suc (suc (suc (suc zero)))) = 256
+bitOf (suc (suc (suc (suc (suc n))))) = 512
+
+abbrev pub sitsAs : ℕ → ℕ → Bool
+sitsAs w x = eqb (x / bitOf w % 2) 1
 
 -- ---- moves
 
@@ -55,11 +69,19 @@ pub record Goes (s : List ℕ) (m : Move) (p : ℕ) (r : Went) : Type 0 where
   pub good : r .kind ≡ 0 → (b : Under) (σ : ℕ) → keysOf (b .want) ≡ [] → place (walk s b σ m p) ≡ some (r .at)
   pub bad : ¬ (r .kind ≡ 0) → (b : Under) (σ : ℕ) → keysOf (b .want) ≡ [] → place (walk s b σ m p) ≡ none
 
--- `r` is past the sign of an item whose key ends at p: kind 0 for `=`, 1 for `:`, more for none
-pub record SignBy (s : List ℕ) (p : ℕ) (r : Went) : Type 0 where
-  pub equals : r .kind ≡ 0 → Goes s (ownMove 2) p (went 0 (r .at))
-  pub colon : r .kind ≡ 1 → Goes s (ownMove 2) p (went 1 p) × Goes s (ownMove 3) p (went 0 (r .at))
-  pub none : ¬ (r .kind ≤ 1) → Goes s (ownMove 2) p (went 1 p) × Goes s (ownMove 3) p (went 1 p)
+-- `r` is one of two moves from p: kind 0 for the first, 1 for the second where the first can't be made, more for neither
+pub record OneBy (s : List ℕ) (m n : Move) (p : ℕ) (r : Went) : Type 0 where
+  pub first : r .kind ≡ 0 → Goes s m p (went 0 (r .at))
+  pub second : r .kind ≡ 1 → Goes s m p (went 1 p) × Goes s n p (went 0 (r .at))
+  pub neither : ¬ (r .kind ≤ 1) → Goes s m p (went 1 p) × Goes s n p (went 1 p)
+
+-- past the sign of an item whose key ends at p: `=`, or `:`
+abbrev pub SignBy : List ℕ → ℕ → Went → Type 0
+SignBy s p r = OneBy s (ownMove 2) (ownMove 3) p r
+
+-- behind an item that ends at p: to the next one, or past the `}`
+abbrev pub AfterBy : List ℕ → ℕ → Went → Type 0
+AfterBy s p r = OneBy s (ownMove 4) (ownMove 5) p r
 
 -- ---- rows
 

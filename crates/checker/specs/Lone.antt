@@ -10,11 +10,8 @@ use Rattle.lexis.specs.Bytes.{byteAt, isSpace, stands}
 use Rattle.lexis.specs.Trivia.{closes, gapTo}
 use Rattle.lexis.specs.RunLaws.{reach}
 use Rattle.lexis.specs.Operator.{isMark, equalsTo}
-use Rattle.grammar.specs.Moves.{lone}
-use Rattle.grammar.specs.Layouts.{entry}
 use Rattle.checker.specs.declared.lone.Memo.{Memo}
 use Rattle.checker.specs.declared.lone.Lone.{Lone}
-use Rattle.checker.specs.Program.{classIn}
 
 -- `=` or `:` stands at q
 abbrev pub signAt : List ℕ → ℕ → Bool
@@ -55,9 +52,4 @@ OneOf a b r = (r ≡ a) ⊎ (r ≡ b)
 -- `r` says whether a sign stands behind the same-line space from p on; what it knows is so
 pub record Behind (s : List ℕ) (p : ℕ) (r : Lone) : Type 0 where
   pub yes : r .yes ≡ signed s p
-  pub known : Known s (r .memo)
-
--- `r` says whether the key of an item at a stands alone
-pub record AloneAt (s : List ℕ) (c a : ℕ) (r : Lone) : Type 0 where
-  pub yes : classIn c ≡ entry → r .yes ≡ lone s a
   pub known : Known s (r .memo)

@@ -1,5 +1,4 @@
 // Whether the key of an item stands alone, with what was found of comments behind earlier keys: so no comment is passed once for each of many keys in it.
-use grammar::picks::key_end;
 use lexis::bytes::byte_at;
 use lexis::bytes::is_space;
 use lexis::bytes::one_at;
@@ -11,7 +10,6 @@ ghost use mathlib.Core.Bool.{true};
 ghost use Prim.Native.Nat.{_+_, _≤_};
 ghost use lib.ListN.{length};
 ghost use Rattle.lexis.specs.Bytes.{stands};
-ghost use Rattle.grammar.specs.Moves.{keyTo};
 ghost use Rattle.checker.specs.Lone.{signAt, Known, SpacesTo, CloserAt, Covered, OneOf, Behind};
 
 // Of each `/*` whose text starts from `from` to `to`, but not with `/`: whether `=` or `:` stands behind the same-line space that it starts.
@@ -130,12 +128,11 @@ fn behind(s: &[u8], c: usize, memo: Memo) -> Lone
     }
 }
 
-// Whether the key of an item at a stands alone.
-pub fn alone(s: &[u8], a: usize, memo: Memo) -> Lone
+// Whether a key stands alone whose first token ends at k.
+pub fn alone(s: &[u8], k: usize, memo: Memo) -> Lone
     requires { ⌜ Known (now s) memo ⌝ }
-    ensures { λ r. ⌜ Behind (now (s .entry)) (keyTo (now (s .entry)) a) r ⌝ }
+    ensures { λ r. ⌜ Behind (now (s .entry)) k r ⌝ }
 {
-    let k = key_end(s, a);
     let q = spaces(s, k);
     if two_at(s, q, 47, 42) {
         return behind(s, q, memo);

@@ -17,7 +17,7 @@ ghost use mathlib.Core.List.{[], _∷_};
 ghost use Rattle.grammar.specs.Moves.{then, skip, opening, stopping};
 ghost use Rattle.checker.specs.Program.{ownMove};
 ghost use Rattle.checker.specs.Leaf.{GoneAt};
-ghost use Rattle.checker.specs.LeafMore.{Past, Comes, Goes, SignBy};
+ghost use Rattle.checker.specs.LeafMore.{Past, Comes, Goes, SignBy, AfterBy};
 
 // Past a token from p to e, which is p where it does not stand.
 fn past(p: usize, e: usize) -> Went
@@ -68,14 +68,18 @@ fn colon(s: &[u8], p: usize) -> Went
 pub fn sign(s: &[u8], p: usize) -> Went
     ensures { λ r. ⌜ SignBy (now (s .entry)) p r ⌝ }
 {
-    let e = equals(s, p);
-    if e.kind == 0 {
-        return e;
+    let g = space(s, p, false);
+    let at = g.at;
+    if g.kind != 0 {
+        return refused(2, p);
     }
-    let c = colon(s, p);
-    let at = c.at;
-    if c.kind == 0 {
-        return refused(1, at);
+    let e = equals_end(s, at);
+    if e != at {
+        return gone(e);
+    }
+    let c = mark_end(s, at, 58);
+    if c != at {
+        return refused(1, c);
     }
     refused(2, p)
 }
@@ -128,6 +132,32 @@ pub fn closing(s: &[u8], p: usize) -> Went
         return w;
     }
     past(w.at, mark_end(s, w.at, 125))
+}
+
+// Behind an item that ends at p: kind 0 for the next item, 1 for past the `}`, 2 for neither.
+pub fn after(s: &[u8], p: usize) -> Went
+    ensures { λ r. ⌜ AfterBy (now (s .entry)) p r ⌝ }
+{
+    let g = space(s, p, false);
+    let at = g.at;
+    if g.kind != 0 {
+        return refused(2, p);
+    }
+    if one_at(s, at, 125) {
+        return refused(1, at + 1);
+    }
+    let x = terminator(s, at);
+    if x.how != Stop::END {
+        return refused(2, p);
+    }
+    let w = space(s, x.at, true);
+    if w.kind != 0 {
+        return refused(2, p);
+    }
+    if one_at(s, w.at, 125) {
+        return refused(1, w.at + 1);
+    }
+    w
 }
 
 // The move with the number a from p; kind 0 where it can be made.

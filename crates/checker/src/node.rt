@@ -5,6 +5,7 @@ use crate::direct::item;
 use crate::direct::operator;
 use crate::family::family;
 use crate::kinds::first_at;
+use crate::kinds::hold;
 use crate::kinds::is_grown;
 use crate::lay::lay;
 use crate::object::object;
@@ -158,7 +159,7 @@ fn left_at(s: &[u8], table: &[u16], i: usize, l: usize, lines: bool) -> Left
     }
     let kind = table[7 * i];
     let operand = table[7 * l];
-    if !groups(tight(kind) as usize, operand, false) {
+    if !groups(tight(kind) as usize, hold(operand) as usize, false) {
         return no_left();
     }
     if !fits(EXPRESSION, operand) {

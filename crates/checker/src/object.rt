@@ -2,10 +2,10 @@
 use crate::lay::ends;
 use crate::lone::Memo;
 use crate::lone::alone;
-use crate::moves::closing;
-use crate::moves::more;
+use crate::moves::after;
 use crate::pass::pass;
 use grammar::moves::space;
+use grammar::picks::key_end;
 use lexis::operator::mark_end;
 ghost use mathlib.Core.Path.{_≡_};
 ghost use Rattle.checker.specs.Rows.{rowAt};
@@ -54,7 +54,8 @@ pub fn object(
         yes: false,
     };
     loop {
-        let key = alone(s, at, memo);
+        let k = key_end(s, at);
+        let key = alone(s, k, memo);
         let c = pass(
             s,
             table,
@@ -68,18 +69,18 @@ pub fn object(
             left,
             lines,
             at,
+            k,
             key.yes,
         );
         if !c.good {
             return false;
         }
-        let g = more(s, c.end);
+        let g = after(s, c.end);
+        if g.kind == 1 {
+            return ends(table, i, c.next, g.at, 0);
+        }
         if g.kind != 0 {
-            let z = closing(s, c.end);
-            if z.kind != 0 {
-                return false;
-            }
-            return ends(table, i, c.next, z.at, 0);
+            return false;
         }
         at = g.at;
         j = c.next;

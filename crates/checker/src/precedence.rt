@@ -1,14 +1,14 @@
 // The precedence test.
-use crate::kinds::hold;
-use grammar::kinds::tight;
-ghost use Rattle.checker.specs.Precedence.{Groups};
+ghost use mathlib.Core.Path.{_≡_};
+ghost use Rattle.checker.specs.Precedence.{grouped};
 
-// Whether an operand of a kind may stand beside an operator of a level: on its right one that is tighter, on its left one that an operator of this level may follow.
-pub fn groups(level: usize, operand: u16, right: bool) -> bool
-    ensures { λ r. ⌜ Groups level operand right r ⌝ }
+// Whether an operand may stand beside an operator of a level: on its right one that binds tighter, on its left one that an operator of this level may follow. `reach` is
+// how tightly it binds there, and the tightest operator that may follow it here.
+pub fn groups(level: usize, reach: usize, right: bool) -> bool
+    ensures { λ r. ⌜ r ≡ grouped level reach right ⌝ }
 {
     if right {
-        return level < tight(operand) as usize;
+        return level < reach;
     }
-    level <= hold(operand) as usize
+    level <= reach
 }

@@ -8,7 +8,7 @@ ghost use Prim.Native.Nat.{_-_};
 ghost use Rattle.engine.specs.Base.{has};
 ghost use Rattle.checker.specs.Program.{beginIn};
 ghost use Rattle.checker.specs.Leaf.{InstrAt, kindsBy, ChildAt};
-ghost use Rattle.checker.specs.LeafMore.{wordIn, Shared, wantedAs};
+ghost use Rattle.checker.specs.LeafMore.{wordIn, Shared, seatOf, sitsAs};
 
 // What is wanted, besides what grammar's program asks for.
 pub struct Want(pub u8);
@@ -139,55 +139,69 @@ pub fn child(class: u8, left: usize, lines: bool) -> Child
     }
 }
 
-// What a kind is wanted as; 6 for what is no child of the program's layouts. Long, as a line for each kind is a table that stays.
-fn wanted(kind: u16) -> u8
-    ensures { λ r. ⌜ r ≡ wantedAs kind ⌝ }
+// How tightly a kind binds and, in the bits behind that, where it may stand: one look for both. Long, as a line for each kind is a table that stays.
+pub fn seat(kind: u16) -> u16
+    ensures { λ r. ⌜ r ≡ seatOf kind ⌝ }
 {
     match kind {
-        0 => 6,
-        1 => 0,
-        2 => 0,
-        3 => 0,
-        4 => 0,
-        5 => 0,
-        6 => 0,
-        7 => 0,
-        8 => 0,
-        9 => 6,
-        10 => 6,
-        11 => 0,
-        12 => 0,
-        13 => 4,
-        14 => 5,
-        15 => 0,
-        16 => 0,
-        17 => 1,
-        18 => 0,
-        19 => 0,
-        20 => 3,
-        21 => 0,
-        22 => 0,
-        23 => 0,
-        24 => 0,
-        25 => 0,
-        26 => 0,
-        27 => 0,
-        28 => 0,
-        29 => 0,
-        30 => 0,
-        31 => 0,
-        32 => 0,
-        33 => 0,
-        34 => 0,
-        35 => 0,
-        36 => 0,
-        37 => 0,
-        38 => 2,
-        39 => 2,
-        40 => 2,
-        41 => 2,
-        42 => 2,
-        _ => 6,
+        0 => 0,
+        1 => 537,
+        2 => 537,
+        3 => 537,
+        4 => 537,
+        5 => 25,
+        6 => 537,
+        7 => 537,
+        8 => 537,
+        9 => 9,
+        10 => 9,
+        11 => 537,
+        12 => 537,
+        13 => 265,
+        14 => 521,
+        15 => 537,
+        16 => 537,
+        17 => 41,
+        18 => 537,
+        19 => 537,
+        20 => 137,
+        21 => 529,
+        22 => 537,
+        23 => 537,
+        24 => 535,
+        25 => 535,
+        26 => 535,
+        27 => 534,
+        28 => 534,
+        29 => 533,
+        30 => 533,
+        31 => 533,
+        32 => 533,
+        33 => 532,
+        34 => 532,
+        35 => 531,
+        36 => 530,
+        37 => 536,
+        38 => 73,
+        39 => 73,
+        40 => 73,
+        41 => 73,
+        42 => 73,
+        _ => 0,
+    }
+}
+
+// Whether what has a seat may stand where something is wanted.
+pub fn sits(want: u8, seat: usize) -> bool
+    ensures { λ r. ⌜ r ≡ sitsAs want seat ⌝ }
+{
+    match want {
+        0 => seat / 16 % 2 == 1,
+        1 => seat / 32 % 2 == 1,
+        2 => seat / 64 % 2 == 1,
+        3 => seat / 128 % 2 == 1,
+        4 => seat / 256 % 2 == 1,
+        _ => seat / 512 % 2 == 1,
     }
 }
 
@@ -195,13 +209,5 @@ fn wanted(kind: u16) -> u8
 pub fn fits(want: u8, kind: u16) -> bool
     ensures { λ r. ⌜ r ≡ has (kindsBy want) kind ⌝ }
 {
-    let w = wanted(kind);
-    if want < Want::KEY {
-        return w == want;
-    }
-    // a key that is a lone identifier is no variable
-    if kind == Kind::VARIABLE {
-        return false;
-    }
-    w == Want::KEY || w == Child::EXPRESSION
+    sits(want, seat(kind) as usize)
 }

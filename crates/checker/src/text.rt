@@ -1,6 +1,7 @@
 // The text numbers of a record, and its text.
 use crate::row::Row;
 use crate::row::row_at;
+use crate::rows::wide;
 use lexis::bytes::one_at;
 use lexis::bytes::two_at;
 use lexis::string::Run;
@@ -57,13 +58,18 @@ pub fn columns(table: &[u16], i: usize, u: usize) -> Used
     requires { ⌜ 7 * i + 7 ≤ length (now table) ⌝ }
     ensures { λ r. ⌜ Columns (rowAt (now (table .entry)) i) u r ⌝ }
 {
-    let r = row_at(table, i);
-    let kind = r.kind;
-    let n = minus(r.end, r.start);
-    match kind {
-        6 => own(r.flag, r.from, r.length, r.start + 1, minus(n, 2), u),
-        9 => own(r.flag, r.from, r.length, r.start, n, u),
-        _ => own(0, r.from, r.length, 0, 0, u),
+    match table[7 * i] {
+        6 => {
+            let r = row_at(table, i);
+            let n = minus(r.end, r.start);
+            own(r.flag, r.from, r.length, r.start + 1, minus(n, 2), u)
+        }
+        9 => {
+            let r = row_at(table, i);
+            let n = minus(r.end, r.start);
+            own(r.flag, r.from, r.length, r.start, n, u)
+        }
+        _ => own(0, wide(table[7 * i + 5]), wide(table[7 * i + 6]), 0, 0, u),
     }
 }
 

@@ -1,12 +1,12 @@
 use native.Mathlib.Omega.{arith}
-use Prim.Native.Nat.{_-_, _+_, _*_, _<_, _≤_}
-use mathlib.Core.Path.{_≡_, refl, sym, ap, subst, _∙_}
+use Prim.Native.Nat.{_-_}
+use mathlib.Core.Path.{_≡_, refl, _∙_}
 use borrow.Author.Tests.{not-true, not-false}
 use borrow.Author.Needs.{needs}
 use lib.ListN.{length}
 use Rattle.checker.specs.Lay.{Laying}
 use Rattle.checker.specs.Lone.{Known}
-use Rattle.checker.proofs.Lones.{known-nothing, alone-item}
+use Rattle.checker.proofs.Lones.{known-nothing}
 use Rattle.checker.proofs.Objects.{Ahead, object-deep, object-no, object-gap-no, object-empty, object-first, ahead-passing, ahead-long, object-item, object-item-no, object-up, object-more, object-open, object-end}
 use Rattle.checker.proofs.object.object.Statement.{statement}
 use Rattle.checker.proofs.object.object.Tie as tie
@@ -20,20 +20,11 @@ abbrev μ-loop : tie.MeasureT-loop
 returns : tie.Need-returns Inv-loop μ-loop
 returns c = object-deep _ _ _ _ _ _ _ _ _ (c .before .before .before .before .before .before .pre .0) (c .before .before .before .before .before .before .pre .1) (c .if1 .taken)
 
-mark-end-requires : tie.Need-mark-end-requires Inv-loop μ-loop
-mark-end-requires c κs = search needs
-
 returns-2 : tie.Need-returns-2 Inv-loop μ-loop
 returns-2 c = object-no _ _ _ _ _ _ _ _ _ (c .before .before .before .before .before .before .before .before .pre .0) (c .before .before .before .before .before .before .before .before .pre .1) (c .before .before .if1 .left) (c .before .mark-end .ensures) (c .if2 .taken)
 
-space-requires : tie.Need-space-requires Inv-loop μ-loop
-space-requires c κs = search needs
-
 returns-3 : tie.Need-returns-3 Inv-loop μ-loop
 returns-3 c = object-gap-no _ _ _ _ _ _ _ _ _ (c .before .before .before .before .before .before .before .before .before .before .before .pre .0) (c .before .before .before .before .before .before .before .before .before .before .before .pre .1) (c .before .before .before .before .before .if1 .left) (c .before .before .before .before .mark-end .ensures) (c .before .before .before .if2 .left) (c .before .before .space .ensures) (c .if3 .taken)
-
-mark-end-requires-2 : tie.Need-mark-end-requires-2 Inv-loop μ-loop
-mark-end-requires-2 c κs = search needs
 
 ends-requires : tie.Need-ends-requires Inv-loop μ-loop
 ends-requires c κs = (c .before .before .before .before .before .before .before .before .before .before .before .before .before .pre .0 .within)
@@ -45,52 +36,51 @@ loop-holds : tie.Need-loop-holds Inv-loop μ-loop
 loop-holds c = (object-first _ _ _ _ _ _ _ _ _ (c .before .before .before .before .before .before .before .before .before .before .before .before .before .pre .0) (c .before .before .before .before .before .before .before .before .before .before .before .before .before .pre .1) (c .before .before .before .before .before .before .before .if1 .left) (c .before .before .before .before .before .before .mark-end .ensures) (c .before .before .before .before .before .if2 .left) (c .before .before .before .before .space .ensures) (c .before .before .if3 .left) (c .before .mark-end2 .ensures) (c .if4 .left), (c .before .before .before .before .before .before .before .before .before .before .before .before .before .pre .0), refl, known-nothing _ _)
 
 alone-requires : tie.Need-alone-requires Inv-loop μ-loop
-alone-requires c κs = (c .loop .inv .3)
+alone-requires c κs = (c .before .loop .inv .3)
 
 pass-requires : tie.Need-pass-requires Inv-loop μ-loop
-pass-requires c κs = ahead-passing _ _ _ _ _ _ _ _ _ (c .before .before .before .loop .inv .0) (c .before .before .before .loop .inv .1) (c .before .before .before .loop .inv .2) (alone-item (c .before .before .alone .ensures) refl)
+pass-requires c κs = ahead-passing _ _ _ _ _ _ _ _ _ (c .before .before .before .before .loop .inv .0) (c .before .before .before .before .loop .inv .1) (c .before .before .before .before .loop .inv .2) (c .before .before .before .key-end .ensures) (c .before .before .alone .ensures)
 
 same-length : tie.Need-same-length Inv-loop μ-loop
-same-length c = omega (arith, (c .before .before .before .before .before .before .pass .ensures .long), ahead-long _ _ _ _ _ _ _ _ _ (c .before .before .before .before .before .before .before .before .before .before .loop .inv .0))
+same-length c = omega (arith, (c .before .before .before .before .before .before .pass .ensures .long), ahead-long _ _ _ _ _ _ _ _ _ (c .before .before .before .before .before .before .before .before .before .before .before .loop .inv .0))
 
 same-length-2 : tie.Need-same-length-2 Inv-loop μ-loop
-same-length-2 c = omega (arith, (c .before .before .before .before .before .before .pass .ensures .room), (c .before .before .before .before .before .before .before .before .before .before .loop .inv .2))
+same-length-2 c = omega (arith, (c .before .before .before .before .before .before .pass .ensures .room), (c .before .before .before .before .before .before .before .before .before .before .before .loop .inv .2))
 
 returns-5 : tie.Need-returns-5 Inv-loop μ-loop
-returns-5 c = object-item-no _ _ _ _ _ _ _ _ _ (c .before .before .before .before .before .before .pass .ensures) (c .before .before .before .before .before .before .before .before .before .before .loop .inv .0) (c .before .before .before .before .before .before .before .before .before .before .loop .inv .1 .deep) (not-true _ (c .if5 .taken))
-
-more-requires : tie.Need-more-requires Inv-loop μ-loop
-more-requires c κs = search needs
-
-closing-requires : tie.Need-closing-requires Inv-loop μ-loop
-closing-requires c κs = search needs
-
-same-length-3 : tie.Need-same-length-3 Inv-loop μ-loop
-same-length-3 c = omega (arith, (c .before .before .before .before .before .before .before .before .before .before .before .before .pass .ensures .long), ahead-long _ _ _ _ _ _ _ _ _ (c .before .before .before .before .before .before .before .before .before .before .before .before .before .before .before .before .loop .inv .0))
-
-same-length-4 : tie.Need-same-length-4 Inv-loop μ-loop
-same-length-4 c = omega (arith, (c .before .before .before .before .before .before .before .before .before .before .before .before .pass .ensures .room), (c .before .before .before .before .before .before .before .before .before .before .before .before .before .before .before .before .loop .inv .2))
-
-returns-6 : tie.Need-returns-6 Inv-loop μ-loop
-returns-6 c = object-open _ _ _ _ _ _ _ _ _ (object-item _ _ _ _ _ _ _ _ _ (c .before .before .before .before .before .before .before .before .before .before .before .before .pass .ensures) (c .before .before .before .before .before .before .before .before .before .before .before .before .before .before .before .before .loop .inv .0) (c .before .before .before .before .before .before .before .before .before .before .before .before .before .before .before .before .loop .inv .1 .deep) (not-false _ (c .before .before .before .before .before .before .if5 .left))) (c .before .before .before .before .before .more .ensures) (c .before .before .before .if6 .taken) (c .before .before .closing .ensures) (c .if7 .taken)
+returns-5 c = object-item-no _ _ _ _ _ _ _ _ _ (c .before .before .before .before .before .before .pass .ensures) (c .before .before .before .before .before .before .before .before .before .before .before .loop .inv .0) (c .before .before .before .before .before .before .before .before .before .before .before .loop .inv .1 .deep) (not-true _ (c .if5 .taken))
 
 ends-requires-2 : tie.Need-ends-requires-2 Inv-loop μ-loop
-ends-requires-2 c κs = (c .before .before .before .before .before .before .before .before .before .before .before .before .before .before .before .before .loop .inv .1 .within)
+ends-requires-2 c κs = (c .before .before .before .before .before .before .before .before .before .before .before .before .before .before .loop .inv .1 .within)
+
+same-length-3 : tie.Need-same-length-3 Inv-loop μ-loop
+same-length-3 c = omega (arith, (c .before .before .before .before .before .before .before .before .before .before .pass .ensures .long), ahead-long _ _ _ _ _ _ _ _ _ (c .before .before .before .before .before .before .before .before .before .before .before .before .before .before .before .loop .inv .0))
+
+same-length-4 : tie.Need-same-length-4 Inv-loop μ-loop
+same-length-4 c = omega (arith, (c .before .before .before .before .before .before .before .before .before .before .pass .ensures .room), (c .before .before .before .before .before .before .before .before .before .before .before .before .before .before .before .loop .inv .2))
+
+returns-6 : tie.Need-returns-6 Inv-loop μ-loop
+returns-6 c = object-end _ _ _ _ _ _ _ _ _ (object-item _ _ _ _ _ _ _ _ _ (c .before .before .before .before .before .before .before .before .before .before .pass .ensures) (c .before .before .before .before .before .before .before .before .before .before .before .before .before .before .before .loop .inv .0) (c .before .before .before .before .before .before .before .before .before .before .before .before .before .before .before .loop .inv .1 .deep) (not-false _ (c .before .before .before .before .if5 .left))) (c .before .before .before .after .ensures) (c .before .if6 .taken) (c .ends2 .ensures)
 
 same-length-5 : tie.Need-same-length-5 Inv-loop μ-loop
-same-length-5 c = omega (arith, (c .before .before .before .before .before .before .before .before .before .before .before .before .before .pass .ensures .long), ahead-long _ _ _ _ _ _ _ _ _ (c .before .before .before .before .before .before .before .before .before .before .before .before .before .before .before .before .before .loop .inv .0))
+same-length-5 c = omega (arith, (c .before .before .before .before .before .before .before .before .before .before .before .pass .ensures .long), ahead-long _ _ _ _ _ _ _ _ _ (c .before .before .before .before .before .before .before .before .before .before .before .before .before .before .before .before .loop .inv .0))
 
 same-length-6 : tie.Need-same-length-6 Inv-loop μ-loop
-same-length-6 c = omega (arith, (c .before .before .before .before .before .before .before .before .before .before .before .before .before .pass .ensures .room), (c .before .before .before .before .before .before .before .before .before .before .before .before .before .before .before .before .before .loop .inv .2))
+same-length-6 c = omega (arith, (c .before .before .before .before .before .before .before .before .before .before .before .pass .ensures .room), (c .before .before .before .before .before .before .before .before .before .before .before .before .before .before .before .before .loop .inv .2))
 
 returns-7 : tie.Need-returns-7 Inv-loop μ-loop
-returns-7 c = object-end _ _ _ _ _ _ _ _ _ (object-item _ _ _ _ _ _ _ _ _ (c .before .before .before .before .before .before .before .before .before .before .before .before .before .pass .ensures) (c .before .before .before .before .before .before .before .before .before .before .before .before .before .before .before .before .before .loop .inv .0) (c .before .before .before .before .before .before .before .before .before .before .before .before .before .before .before .before .before .loop .inv .1 .deep) (not-false _ (c .before .before .before .before .before .before .before .if5 .left))) (c .before .before .before .before .before .before .more .ensures) (c .before .before .before .before .if6 .taken) (c .before .before .before .closing .ensures) (c .before .if7 .left) (c .ends2 .ensures)
+returns-7 c = object-open _ _ _ _ _ _ _ _ _ (object-item _ _ _ _ _ _ _ _ _ (c .before .before .before .before .before .before .before .before .before .before .before .pass .ensures) (c .before .before .before .before .before .before .before .before .before .before .before .before .before .before .before .before .loop .inv .0) (c .before .before .before .before .before .before .before .before .before .before .before .before .before .before .before .before .loop .inv .1 .deep) (not-false _ (c .before .before .before .before .before .if5 .left))) (c .before .before .before .before .after .ensures) (c .before .before .if6 .left) (c .if7 .taken)
 
 loop-less : tie.Need-loop-less Inv-loop μ-loop
-loop-less c = let u = object-up _ _ _ _ _ _ _ _ _ (c .before .before .before .before .before .before .before .before .before .before .pass .ensures) (c .before .before .before .before .before .before .before .before .before .before .before .before .before .before .loop .inv .0) (not-false _ (c .before .before .before .before .if5 .left)) in omega (arith, u .0, u .1)
+loop-less c = let u = object-up _ _ _ _ _ _ _ _ _ (c .before .before .before .before .before .before .before .before .before .before .before .before .pass .ensures) (c .before .before .before .before .before .before .before .before .before .before .before .before .before .before .before .before .before .loop .inv .0) (not-false _ (c .before .before .before .before .before .before .if5 .left)) in omega (arith, u .0, u .1)
 
 loop-again : tie.Need-loop-again Inv-loop μ-loop
-loop-again c = (object-more _ _ _ _ _ _ _ _ _ (object-item _ _ _ _ _ _ _ _ _ (c .before .before .before .before .before .before .before .before .before .before .pass .ensures) (c .before .before .before .before .before .before .before .before .before .before .before .before .before .before .loop .inv .0) (c .before .before .before .before .before .before .before .before .before .before .before .before .before .before .loop .inv .1 .deep) (not-false _ (c .before .before .before .before .if5 .left))) (c .before .before .before .more .ensures) (c .before .if6 .left), (c .before .before .before .before .before .before .before .before .before .before .before .before .before .before .loop .inv .1), (c .before .before .before .before .before .before .before .before .before .before .pass .ensures .room) ∙ (c .before .before .before .before .before .before .before .before .before .before .before .before .before .before .loop .inv .2), (c .before .before .before .before .before .before .before .before .before .before .before .before .before .alone .ensures .known))
+loop-again c = (
+  object-more _ _ _ _ _ _ _ _ _ (object-item _ _ _ _ _ _ _ _ _ (c .before .before .before .before .before .before .before .before .before .before .before .before .pass .ensures) (c .before .before .before .before .before .before .before .before .before .before .before .before .before .before .before .before .before .loop .inv .0) (c .before .before .before .before .before .before .before .before .before .before .before .before .before .before .before .before .before .loop .inv .1 .deep) (not-false _ (c .before .before .before .before .before .before .if5 .left))) (c .before .before .before .before .before .after .ensures) (c .before .if7 .left),
+  (c .before .before .before .before .before .before .before .before .before .before .before .before .before .before .before .before .before .loop .inv .1),
+  (c .before .before .before .before .before .before .before .before .before .before .before .before .pass .ensures .room) ∙ (c .before .before .before .before .before .before .before .before .before .before .before .before .before .before .before .before .before .loop .inv .2),
+  (c .before .before .before .before .before .before .before .before .before .before .before .before .before .before .before .alone .ensures .known),
+)
 
 pub object-spec : {M : Type 1} → statement M
 object-spec =
@@ -99,25 +89,25 @@ object-spec =
     Inv-loop
     μ-loop
     returns
-    mark-end-requires
+    (λ c κs. search needs)
     returns-2
-    space-requires
+    (λ c κs. search needs)
     returns-3
-    mark-end-requires-2
+    (λ c κs. search needs)
     ends-requires
     returns-4
     loop-holds
+    (λ c κs. search needs)
     alone-requires
     pass-requires
     same-length
     same-length-2
     returns-5
-    more-requires
-    closing-requires
+    (λ c κs. search needs)
+    ends-requires-2
     same-length-3
     same-length-4
     returns-6
-    ends-requires-2
     same-length-5
     same-length-6
     returns-7

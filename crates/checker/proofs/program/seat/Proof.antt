@@ -3,16 +3,16 @@ use lib.ListN.{List·getD-eq-default}
 use Prim.Native.Nat.{ℕ}
 use mathlib.Core.Path.{_≡_, sym, ap}
 use Rattle.grammar.proofs.Tables.{Others, behind}
-use Rattle.checker.specs.LeafMore.{wants, wantedAs}
-use Rattle.checker.proofs.program.wanted.Statement.{statement}
-use Rattle.checker.proofs.program.wanted.Tie as tie
+use Rattle.checker.specs.LeafMore.{seats, seatOf}
+use Rattle.checker.proofs.program.seat.Statement.{statement}
+use Rattle.checker.proofs.program.seat.Tie as tie
 
-row : (k kind : ℕ) → kind ≡ k → wantedAs k ≡ wantedAs kind
-row k kind e = sym (ap wantedAs e)
+row : (k kind : ℕ) → kind ≡ k → seatOf k ≡ seatOf kind
+row k kind e = sym (ap seatOf e)
 
-pub wanted-spec : {M : Type 1} → statement M
+pub seat-spec : {M : Type 1} → statement M
 unfolding Others
-wanted-spec =
+seat-spec =
     tie.close
     (tie.spec
     (λ c. row 0 _ (c .match .keys1))
@@ -58,4 +58,4 @@ wanted-spec =
     (λ c. row 40 _ (c .match .keys41))
     (λ c. row 41 _ (c .match .keys42))
     (λ c. row 42 _ (c .match .keys43))
-    (λ c. sym (List·getD-eq-default wants 6 (behind 43 _ (c .match .rest)))))
+    (λ c. sym (List·getD-eq-default seats 0 (behind 43 _ (c .match .rest)))))
