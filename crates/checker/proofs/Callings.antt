@@ -1,6 +1,6 @@
 -- Kinds: which grow from an operand, and whether the bytes at a place call for one.
 use Prim.Native.Nat.{ℕ, _≤_, _<_}
-use mathlib.Core.Path.{_≡_, refl, sym, ap, _∙_}
+use mathlib.Core.Path.{_≡_, refl, sym, ap, subst, _∙_}
 use mathlib.Core.List.{List, [], _∷_}
 use mathlib.Core.Bool.{Bool, true, false, cond, not, _&&_}
 use mathlib.Core.Option.{some}
@@ -131,3 +131,7 @@ module _ (s : List ℕ) (p : ℕ) (lines : Bool) where
 
       style : styleOf k ≡ 0
       style = rw (ne-eqb k 14 n14)
+
+-- an attribute's bytes, at a place that is told otherwise
+pub dot-first : {s : List ℕ} {k p p′ : ℕ} {lines : Bool} → k ≡ 38 → p ≡ p′ → FirstAt s 38 p lines true → FirstAt s k p′ lines true
+dot-first {s} {k} {p} {p′} {lines} e f h = subst (λ (x : ℕ). FirstAt s x p′ lines true) (sym e) (subst (λ (x : ℕ). FirstAt s 38 x lines true) f h)

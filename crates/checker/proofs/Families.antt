@@ -105,6 +105,10 @@ family-yes {t} {m₀} {m} {i} {lo} {hi} {next} w l =
       no = λ z lo′ js tiles k pos. absurd (z (w .far));
     }
 
+-- it has none
+pub family-none : (t m : List ℕ) (i : ℕ) → (rowAt t i) .count ≡ 1 → Family t i m m i
+family-none t m i e = let f : Found t i i i i m m = found-start (omega arith) (omega arith) in family-yes f (omega arith)
+
 -- its own count is 0, or more than there are
 pub family-no : {t m : List ℕ} {i : ℕ} → ((lo : ℕ) → lo + (rowAt t i) .count ≡ suc i → (js : List ℕ) → Kids (rows t) lo i js → ⊥) → Family t i m m (i + 1)
 family-no f = record {

@@ -240,3 +240,17 @@ module _ (s t : List ℕ) (i own : ℕ) where
         as-own {rs} x =
             let e : x .sort ≡ readAs kind = some-is (sym (x .pick) ∙ f .yes y (own / 2)) in
             subst (λ (l : Layout). Over s t i (own / 2) (eqb (own % 2) 1) [] l start rs (x .below)) (ap layoutOf e ∙ layout-as kind) (x .over)
+
+    -- its layout is not
+    head-off : {D′ : List ℕ} → ¬ (kind ≡ 14) → LaidBy s t i m D D′ j start (own / 2) (eqb (own % 2) 1) false → RuleBy s text t i m D D′ j own false
+    head-off n h =
+        rule-no text m D j (h .long) (h .same)
+        (λ js c sane wd ds l.
+        let x = headed-of g l in
+        h .no refl [] js (record { chain = c; object = λ e. refl }) (sanes-filled s text t (round s start) js sane) (x .below)
+        (subst (λ (o : ℕ). Over s t i (own / 2) (eqb (own % 2) 1) [] (layoutOf o) start (map (recAt t) js) (x .below)) (sort-is n x) (x .over)))
+
+    -- a layout that is laid only where the bytes call for it
+    pub head-called : {D′ : List ℕ} (r : Bool) → ¬ (kind ≡ 14) → (r ≡ true → FirstAt s kind start (eqb (own % 2) 1) true) → LaidBy s t i m D D′ j start (own / 2) (eqb (own % 2) 1) r → RuleBy s text t i m D D′ j own r
+    head-called true n f h = head-by refl (f refl) h
+    head-called false n f h = head-off n h

@@ -7,7 +7,7 @@ ghost use mathlib.Core.Path.{_≡_};
 ghost use Prim.Native.Nat.{_+_, _*_, _≤_};
 ghost use lib.ListN.{length};
 ghost use Rattle.checker.specs.Rows.{rowAt};
-ghost use Rattle.checker.specs.Token.{BareBy};
+ghost use Rattle.checker.specs.Token.{BareBy, DotBy};
 
 // A name from p on: an identifier.
 pub fn name(s: &[u8], table: &[u16], i: usize, j: usize, p: usize) -> bool
@@ -24,7 +24,7 @@ pub fn name(s: &[u8], table: &[u16], i: usize, j: usize, p: usize) -> bool
 // An attribute from p on: a dot, any trivia and an identifier.
 pub fn attribute(s: &[u8], table: &[u16], i: usize, j: usize, p: usize) -> bool
     requires { ⌜ (7 * i + 7 ≤ length (now table)) × ((rowAt (now table) i) .kind ≡ 38) ⌝ }
-    ensures { λ r. ⌜ BareBy (now (s .entry)) (now (table .entry)) i j p r ⌝ }
+    ensures { λ r. ⌜ DotBy (now (s .entry)) (now (table .entry)) i j p r ⌝ }
 {
     let d = mark_end(s, p, 46);
     if d == p {

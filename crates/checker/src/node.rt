@@ -222,15 +222,6 @@ fn headed(
     let kind = table[7 * i];
     let start = wide(table[7 * i + 2]);
     let lines = multi_line(own);
-    if first == i {
-        let x = single(s, table, i, lines);
-        if x.sure {
-            return x.yes;
-        }
-    }
-    if !first_at(s, kind, start, lines) {
-        return false;
-    }
     if kind == Kind::ITEM {
         return item(s, table, i, marks, depths, first, start, own);
     }
@@ -239,6 +230,9 @@ fn headed(
     }
     if kind == Kind::NAME {
         return name(s, table, i, first, start);
+    }
+    if !first_at(s, kind, start, lines) {
+        return false;
     }
     let left = levels(own);
     if kind == Kind::OBJECT {
@@ -294,6 +288,14 @@ pub fn node(
     requires { ⌜ Noding (now s) (now table) i (now marks) (now depths) (now keys) (getD (now depths) i 0) ⌝ }
     ensures { λ r. ⌜ NodeBy (now (s .entry)) (now (text .entry)) (now (table .entry)) i (now (depths .entry)) (now (depths .exit)) r ⌝ }
 {
+    let own = depths[i];
+    // most rows have no children and are told by one look
+    if table[7 * i + 4] == 1 {
+        let x = single(s, table, i, multi_line(own));
+        if x.sure {
+            return x.yes;
+        }
+    }
     if table[7 * i] == Kind::PIECE {
         return table[7 * i + 4] == 1;
     }
@@ -301,6 +303,5 @@ pub fn node(
     if i < first {
         return false;
     }
-    let own = depths[i];
     ruled(s, text, table, i, marks, depths, keys, first, own)
 }
