@@ -6,19 +6,10 @@ use Rattle.checker.proofs.Nodes.{first-as, laid-as}
 use Rattle.checker.proofs.Heads.{head-no, head-known, head-by}
 use Rattle.checker.proofs.Singles.{single-as}
 use borrow.Author.Needs.{needs}
-use Rattle.checker.proofs.node.headed.Statement.{statement}
-use Rattle.checker.proofs.node.headed.Tie as tie
-use Rattle.checker.proofs.node.headed.Reads as reads
-use Rattle.checker.proofs.node.headed.Lts as lts
-use Rattle.checker.proofs.kinds.first_at.Reads as first-at-reads
-use Rattle.checker.proofs.lay.lay.Reads as lay-reads
-use Rattle.checker.proofs.node.levels.Reads as levels-reads
-use Rattle.checker.proofs.node.multi_line.Reads as multi-line-reads
-use Rattle.checker.proofs.rows.wide.Reads as wide-reads
-use Rattle.checker.proofs.single.single.Reads as single-reads
-use Rattle.checker.proofs.object.object.Reads as object-reads
 use Prim.Native.Nat.{_/_, _%_}
 use lib.Dec.{eqb}
+use Rattle.checker.proofs.node.headed.Statement.{statement}
+use Rattle.checker.proofs.node.headed.Tie as tie
 
 mul-kind : tie.Need-mul-kind
 mul-kind c = search needs
@@ -51,19 +42,19 @@ single-requires : tie.Need-single-requires
 single-requires c κs = search needs
 
 returns : tie.Need-returns
-returns c = single-as ((c .before .before .if1 .taken)) (((c .before .single .ensures .rule)) ((c .if2 .taken)) _ ((c .before .before .before .multi-line .ensures)) _ _ _)
+returns c = single-as (c .before .before .if1 .taken) ((c .before .single .ensures .rule) (c .if2 .taken) _ (c .before .before .before .multi-line .ensures) _ _ _)
 
 first-at-requires : tie.Need-first-at-requires
 first-at-requires c κs = search needs
 
 returns-2 : tie.Need-returns-2
-returns-2 c = head-no _ _ _ _ _ _ _ _ ((c .before .before .before .before .before .before .before .before .before .before .before .before .before .pre .2)) (not-true _ ((c .if3 .taken))) (first-as ((c .before .before .before .before .wide .ensures .0)) ((c .before .before .before .multi-line .ensures)) ((c .before .first-at .ensures)))
+returns-2 c = head-no _ _ _ _ _ _ _ _ (c .before .before .before .before .before .before .before .before .before .before .before .before .before .pre .2) (not-true _ (c .if3 .taken)) (first-as (c .before .before .before .before .wide .ensures .0) (c .before .before .before .multi-line .ensures) (c .before .first-at .ensures))
 
 item-requires : tie.Need-item-requires
 item-requires c κs = (record { within = (c .before .before .before .before .before .before .before .before .before .before .before .before .before .before .before .pre .0 .within); marked = (c .before .before .before .before .before .before .before .before .before .before .before .before .before .before .before .pre .0 .marked); deep = (c .before .before .before .before .before .before .before .before .before .before .before .before .before .before .before .pre .0 .deep); js = (c .before .before .before .before .before .before .before .before .before .before .before .before .before .before .before .pre .1 .js); chain = (c .before .before .before .before .before .before .before .before .before .before .before .before .before .before .before .pre .1 .chain) }, (c .before .if4 .taken))
 
 same-length : tie.Need-same-length
-same-length c = omega (arith, (c .before .before .item .ensures .long))
+same-length c = (c .before .before .item .ensures .long)
 
 returns-3 : tie.Need-returns-3
 returns-3 c = head-by _ _ _ _ _ _ _ _ (c .before .before .before .before .before .before .before .before .before .before .before .before .before .before .before .before .before .before .pre .2) (c .before .before .before .before .before .before .before .before .before .before .before .before .before .before .before .before .before .before .pre .3) (not-false _ (c .before .before .before .before .before .if3 .left)) (first-as (c .before .before .before .before .before .before .before .before .before .wide .ensures .0) (c .before .before .before .before .before .before .before .before .multi-line .ensures) (c .before .before .before .before .before .before .first-at .ensures)) (laid-as (c .before .before .before .before .before .before .before .before .before .wide .ensures .0) refl refl (c .before .before .item .ensures))
@@ -84,10 +75,10 @@ levels-requires : tie.Need-levels-requires
 levels-requires c κs = search needs
 
 object-requires : tie.Need-object-requires
-object-requires c κs = (record { within = ((c .before .before .before .before .before .before .before .before .before .before .before .before .before .before .before .before .before .before .before .before .pre .0 .within)); marked = ((c .before .before .before .before .before .before .before .before .before .before .before .before .before .before .before .before .before .before .before .before .pre .0 .marked)); deep = ((c .before .before .before .before .before .before .before .before .before .before .before .before .before .before .before .before .before .before .before .before .pre .0 .deep)); keyed = ((c .before .before .before .before .before .before .before .before .before .before .before .before .before .before .before .before .before .before .before .before .pre .0 .keyed)); small = ((c .before .before .before .before .before .before .before .before .before .before .before .before .before .before .before .before .before .before .before .before .pre .0 .small)); few = ((c .before .before .before .levels .ensures .1)); js = ((c .before .before .before .before .before .before .before .before .before .before .before .before .before .before .before .before .before .before .before .before .pre .1 .js)); chain = ((c .before .before .before .before .before .before .before .before .before .before .before .before .before .before .before .before .before .before .before .before .pre .1 .chain)); known = head-known ((c .before .before .before .before .before .before .before .before .before .before .before .before .before .before .before .before .before .before .before .before .args .s .now)) ((c .before .before .before .before .before .before .before .before .before .before .before .before .before .before .before .before .before .before .before .before .args .table .now)) ((c .before .before .before .before .before .before .before .before .before .before .before .before .before .before .before .before .before .before .before .before .args .i)) ((c .before .before .before .before .before .before .before .before .before .before .before .before .before .before .before .before .before .before .before .before .args .own)) [] [] [] 0 ((c .before .before .before .before .before .before .before .before .before .before .before .before .before .before .before .before .before .before .before .before .pre .2)) ((c .before .before .before .before .before .before .before .before .before .before .before .before .before .before .before .before .before .before .before .before .pre .3)) (not-false _ ((c .before .before .before .before .before .before .before .if3 .left))) (first-as ((c .before .before .before .before .before .before .before .before .before .before .before .wide .ensures .0)) ((c .before .before .before .before .before .before .before .before .before .before .multi-line .ensures)) ((c .before .before .before .before .before .before .before .before .first-at .ensures))) }, (c .before .before .if7 .taken))
+object-requires c κs = (record { within = (c .before .before .before .before .before .before .before .before .before .before .before .before .before .before .before .before .before .before .before .before .pre .0 .within); marked = (c .before .before .before .before .before .before .before .before .before .before .before .before .before .before .before .before .before .before .before .before .pre .0 .marked); deep = (c .before .before .before .before .before .before .before .before .before .before .before .before .before .before .before .before .before .before .before .before .pre .0 .deep); keyed = (c .before .before .before .before .before .before .before .before .before .before .before .before .before .before .before .before .before .before .before .before .pre .0 .keyed); small = (c .before .before .before .before .before .before .before .before .before .before .before .before .before .before .before .before .before .before .before .before .pre .0 .small); few = (c .before .before .before .levels .ensures .1); js = (c .before .before .before .before .before .before .before .before .before .before .before .before .before .before .before .before .before .before .before .before .pre .1 .js); chain = (c .before .before .before .before .before .before .before .before .before .before .before .before .before .before .before .before .before .before .before .before .pre .1 .chain); known = head-known (c .before .before .before .before .before .before .before .before .before .before .before .before .before .before .before .before .before .before .before .before .args .s .now) (c .before .before .before .before .before .before .before .before .before .before .before .before .before .before .before .before .before .before .before .before .args .table .now) (c .before .before .before .before .before .before .before .before .before .before .before .before .before .before .before .before .before .before .before .before .args .i) (c .before .before .before .before .before .before .before .before .before .before .before .before .before .before .before .before .before .before .before .before .args .own) [] [] [] 0 (c .before .before .before .before .before .before .before .before .before .before .before .before .before .before .before .before .before .before .before .before .pre .2) (c .before .before .before .before .before .before .before .before .before .before .before .before .before .before .before .before .before .before .before .before .pre .3) (not-false _ (c .before .before .before .before .before .before .before .if3 .left)) (first-as (c .before .before .before .before .before .before .before .before .before .before .before .wide .ensures .0) (c .before .before .before .before .before .before .before .before .before .before .multi-line .ensures) (c .before .before .before .before .before .before .before .before .first-at .ensures)) }, (c .before .before .if7 .taken))
 
 same-length-2 : tie.Need-same-length-2
-same-length-2 c = omega (arith, (c .before .before .before .before .object .ensures .long))
+same-length-2 c = (c .before .before .before .before .object .ensures .long)
 
 same-length-3 : tie.Need-same-length-3
 same-length-3 c = search needs
@@ -96,13 +87,22 @@ returns-6 : tie.Need-returns-6
 returns-6 c = head-by _ _ _ _ _ _ _ _ (c .before .before .before .before .before .before .before .before .before .before .before .before .before .before .before .before .before .before .before .before .before .before .before .before .before .pre .2) (c .before .before .before .before .before .before .before .before .before .before .before .before .before .before .before .before .before .before .before .before .before .before .before .before .before .pre .3) (not-false _ (c .before .before .before .before .before .before .before .before .before .before .before .before .if3 .left)) (first-as (c .before .before .before .before .before .before .before .before .before .before .before .before .before .before .before .before .wide .ensures .0) (c .before .before .before .before .before .before .before .before .before .before .before .before .before .before .before .multi-line .ensures) (c .before .before .before .before .before .before .before .before .before .before .before .before .before .first-at .ensures)) (laid-as (c .before .before .before .before .before .before .before .before .before .before .before .before .before .before .before .before .wide .ensures .0) (c .before .before .before .before .before .before .before .before .levels .ensures .0) (c .before .before .before .before .before .before .before .before .before .before .before .before .before .before .before .multi-line .ensures) (c .before .before .before .before .object .ensures))
 
 lay-requires : tie.Need-lay-requires
-lay-requires c κs = (record { within = (c .before .before .before .before .before .before .before .before .before .before .before .before .before .before .before .before .before .before .before .pre .0 .within); marked = (c .before .before .before .before .before .before .before .before .before .before .before .before .before .before .before .before .before .before .before .pre .0 .marked); deep = (c .before .before .before .before .before .before .before .before .before .before .before .before .before .before .before .before .before .before .before .pre .0 .deep); js = (c .before .before .before .before .before .before .before .before .before .before .before .before .before .before .before .before .before .before .before .pre .1 .js); chain = (c .before .before .before .before .before .before .before .before .before .before .before .before .before .before .before .before .before .before .before .pre .1 .chain) }, (c .before .before .levels .ensures .1), head-known ((c .before .before .before .before .before .before .before .before .before .before .before .before .before .before .before .before .before .before .before .args .s .now)) ((c .before .before .before .before .before .before .before .before .before .before .before .before .before .before .before .before .before .before .before .args .table .now)) ((c .before .before .before .before .before .before .before .before .before .before .before .before .before .before .before .before .before .before .before .args .i)) ((c .before .before .before .before .before .before .before .before .before .before .before .before .before .before .before .before .before .before .before .args .own)) [] [] [] 0 ((c .before .before .before .before .before .before .before .before .before .before .before .before .before .before .before .before .before .before .before .pre .2)) ((c .before .before .before .before .before .before .before .before .before .before .before .before .before .before .before .before .before .before .before .pre .3)) (not-false _ ((c .before .before .before .before .before .before .if3 .left))) (first-as ((c .before .before .before .before .before .before .before .before .before .before .wide .ensures .0)) ((c .before .before .before .before .before .before .before .before .before .multi-line .ensures)) ((c .before .before .before .before .before .before .before .first-at .ensures))), (c .before .if7 .left), (c .before .before .before .before .before .before .before .before .before .before .before .before .before .before .before .before .before .before .before .pre .0 .small))
+lay-requires c κs = (record { within = (c .before .before .before .before .before .before .before .before .before .before .before .before .before .before .before .before .before .before .before .before .pre .0 .within); marked = (c .before .before .before .before .before .before .before .before .before .before .before .before .before .before .before .before .before .before .before .before .pre .0 .marked); deep = (c .before .before .before .before .before .before .before .before .before .before .before .before .before .before .before .before .before .before .before .before .pre .0 .deep); js = (c .before .before .before .before .before .before .before .before .before .before .before .before .before .before .before .before .before .before .before .before .pre .1 .js); chain = (c .before .before .before .before .before .before .before .before .before .before .before .before .before .before .before .before .before .before .before .before .pre .1 .chain) }, (c .before .before .before .levels .ensures .1), head-known (c .before .before .before .before .before .before .before .before .before .before .before .before .before .before .before .before .before .before .before .before .args .s .now) (c .before .before .before .before .before .before .before .before .before .before .before .before .before .before .before .before .before .before .before .before .args .table .now) (c .before .before .before .before .before .before .before .before .before .before .before .before .before .before .before .before .before .before .before .before .args .i) (c .before .before .before .before .before .before .before .before .before .before .before .before .before .before .before .before .before .before .before .before .args .own) [] [] [] 0 (c .before .before .before .before .before .before .before .before .before .before .before .before .before .before .before .before .before .before .before .before .pre .2) (c .before .before .before .before .before .before .before .before .before .before .before .before .before .before .before .before .before .before .before .before .pre .3) (not-false _ (c .before .before .before .before .before .before .before .if3 .left)) (first-as (c .before .before .before .before .before .before .before .before .before .before .before .wide .ensures .0) (c .before .before .before .before .before .before .before .before .before .before .multi-line .ensures) (c .before .before .before .before .before .before .before .before .first-at .ensures)), (c .before .before .if7 .left), (c .before .before .before .before .before .before .before .before .before .before .before .before .before .before .before .before .before .before .before .before .pre .0 .small))
 
 same-length-4 : tie.Need-same-length-4
-same-length-4 c = omega (arith, (c .before .before .lay .ensures .long))
+same-length-4 c = (c .before .before .lay .ensures .long)
 
 returns-7 : tie.Need-returns-7
-returns-7 c = head-by _ _ _ _ _ _ _ _ (c .before .before .before .before .before .before .before .before .before .before .before .before .before .before .before .before .before .before .before .before .before .before .pre .2) (c .before .before .before .before .before .before .before .before .before .before .before .before .before .before .before .before .before .before .before .before .before .before .pre .3) (not-false _ (c .before .before .before .before .before .before .before .before .before .if3 .left)) (first-as (c .before .before .before .before .before .before .before .before .before .before .before .before .before .wide .ensures .0) (c .before .before .before .before .before .before .before .before .before .before .before .before .multi-line .ensures) (c .before .before .before .before .before .before .before .before .before .before .first-at .ensures)) (laid-as (c .before .before .before .before .before .before .before .before .before .before .before .before .before .wide .ensures .0) (c .before .before .before .before .before .levels .ensures .0) (c .before .before .before .before .before .before .before .before .before .before .before .before .multi-line .ensures) (c .before .before .lay .ensures))
+returns-7 c = head-by _ _ _ _ _ _ _ _ (c .before .before .before .before .before .before .before .before .before .before .before .before .before .before .before .before .before .before .before .before .before .before .before .pre .2) (c .before .before .before .before .before .before .before .before .before .before .before .before .before .before .before .before .before .before .before .before .before .before .before .pre .3) (not-false _ (c .before .before .before .before .before .before .before .before .before .before .if3 .left)) (first-as (c .before .before .before .before .before .before .before .before .before .before .before .before .before .before .wide .ensures .0) (c .before .before .before .before .before .before .before .before .before .before .before .before .before .multi-line .ensures) (c .before .before .before .before .before .before .before .before .before .before .before .first-at .ensures)) (laid-as (c .before .before .before .before .before .before .before .before .before .before .before .before .before .before .wide .ensures .0) (c .before .before .before .before .before .before .levels .ensures .0) (c .before .before .before .before .before .before .before .before .before .before .before .before .before .multi-line .ensures) (c .before .before .lay .ensures))
+
+layout-requires : tie.Need-layout-requires
+layout-requires c κs = (record { within = (c .before .before .before .before .before .before .before .before .before .before .before .before .before .before .before .before .before .before .before .before .pre .0 .within); marked = (c .before .before .before .before .before .before .before .before .before .before .before .before .before .before .before .before .before .before .before .before .pre .0 .marked); deep = (c .before .before .before .before .before .before .before .before .before .before .before .before .before .before .before .before .before .before .before .before .pre .0 .deep); js = (c .before .before .before .before .before .before .before .before .before .before .before .before .before .before .before .before .before .before .before .before .pre .1 .js); chain = (c .before .before .before .before .before .before .before .before .before .before .before .before .before .before .before .before .before .before .before .before .pre .1 .chain) }, refl, head-known (c .before .before .before .before .before .before .before .before .before .before .before .before .before .before .before .before .before .before .before .before .args .s .now) (c .before .before .before .before .before .before .before .before .before .before .before .before .before .before .before .before .before .before .before .before .args .table .now) (c .before .before .before .before .before .before .before .before .before .before .before .before .before .before .before .before .before .before .before .before .args .i) (c .before .before .before .before .before .before .before .before .before .before .before .before .before .before .before .before .before .before .before .before .args .own) [] [] [] 0 (c .before .before .before .before .before .before .before .before .before .before .before .before .before .before .before .before .before .before .before .before .pre .2) (c .before .before .before .before .before .before .before .before .before .before .before .before .before .before .before .before .before .before .before .before .pre .3) (not-false _ (c .before .before .before .before .before .before .before .if3 .left)) (first-as (c .before .before .before .before .before .before .before .before .before .before .before .wide .ensures .0) (c .before .before .before .before .before .before .before .before .before .before .multi-line .ensures) (c .before .before .before .before .before .before .before .before .first-at .ensures)), (c .before .before .if7 .left), (c .before .before .before .before .before .before .before .before .before .before .before .before .before .before .before .before .before .before .before .before .pre .0 .small), (c .before .before .before .levels .ensures .0), (c .before .before .before .levels .ensures .1), (c .before .before .before .before .before .before .before .before .before .before .multi-line .ensures))
+
+same-length-5 : tie.Need-same-length-5
+same-length-5 c = (c .before .before .layout .ensures .long)
+
+returns-8 : tie.Need-returns-8
+returns-8 c = head-by _ _ _ _ _ _ _ _ (c .before .before .before .before .before .before .before .before .before .before .before .before .before .before .before .before .before .before .before .before .before .before .before .pre .2) (c .before .before .before .before .before .before .before .before .before .before .before .before .before .before .before .before .before .before .before .before .before .before .before .pre .3) (not-false _ (c .before .before .before .before .before .before .before .before .before .before .if3 .left)) (first-as (c .before .before .before .before .before .before .before .before .before .before .before .before .before .before .wide .ensures .0) (c .before .before .before .before .before .before .before .before .before .before .before .before .before .multi-line .ensures) (c .before .before .before .before .before .before .before .before .before .before .before .first-at .ensures)) (laid-as (c .before .before .before .before .before .before .before .before .before .before .before .before .before .before .wide .ensures .0) refl refl (c .before .before .layout .ensures))
 
 pub headed-spec : {M : Type 1} → statement M
 headed-spec =
@@ -135,4 +135,7 @@ headed-spec =
     returns-6
     lay-requires
     same-length-4
-    returns-7)
+    returns-7
+    layout-requires
+    same-length-5
+    returns-8)
