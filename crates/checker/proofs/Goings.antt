@@ -28,7 +28,7 @@ use Rattle.checker.specs.LeafMore.{Past, Comes, Goes, OneBy, SignBy, Aft
 
 -- ---- steps
 
-unexpected-none : (s : List ℕ) (p : ℕ) → place (unexpected s p) ≡ none
+pub unexpected-none : (s : List ℕ) (p : ℕ) → place (unexpected s p) ≡ none
 unexpected-none s p = go (isForeign (byteAt s p))
   where
     go : (b : Bool) → place (when b (no Foreign p) (no Unexpected p)) ≡ none
@@ -39,7 +39,7 @@ then-to : (x : Step) → then x to ≡ x
 then-to (to q) = refl
 then-to (no k q) = refl
 
-then-none : (x : Step) (f : ℕ → Step) → place x ≡ none → place (then x f) ≡ none
+pub then-none : (x : Step) (f : ℕ → Step) → place x ≡ none → place (then x f) ≡ none
 then-none (to q) f e = absurd (let z : _≡_ {A = ℕ} 0 1 = cc in omega arith)
 then-none (no k q) f e = refl
 
@@ -63,7 +63,7 @@ token-comes : (s : List ℕ) (b : Bool) (n : ℕ) {p e : ℕ} {r : Went} → 1 �
 token-comes s true n l h f = record { good = λ z. ap to (sym h ∙ sym (f .good z .1)); bad = λ z. absurd (omega (arith, f .bad z)) }
 token-comes s false n {p} l h f = record { good = λ z. absurd (f .good z .0 h); bad = λ z. unexpected-none s p }
 
-mark-comes : {s : List ℕ} (w : List ℕ) (longer : List (List ℕ)) {p e : ℕ} {r : Went} → 1 ≤ length w → Ran s p (markTo w longer s p) e → Past p e r → Comes (marks s w longer p) r
+pub mark-comes : {s : List ℕ} (w : List ℕ) (longer : List (List ℕ)) {p e : ℕ} {r : Went} → 1 ≤ length w → Ran s p (markTo w longer s p) e → Past p e r → Comes (marks s w longer p) r
 mark-comes {s} w longer {p} l h f = token-comes s (isMark w longer s p) (length w) l (h .is) f
 
 mark-swap : (a b c : Bool) → (a && not (b || (c || false))) ≡ (a && not (c || (b || false)))
@@ -79,14 +79,14 @@ equals-comes {s} {p} h f =
 
 -- a level
 
-level-none : (s w : List ℕ) (longer : List (List ℕ)) (p : ℕ) → place (opening s 0 w longer p) ≡ none
+pub level-none : (s w : List ℕ) (longer : List (List ℕ)) (p : ℕ) → place (opening s 0 w longer p) ≡ none
 level-none s w longer p = go (isMark w longer s p)
   where
     go : (b : Bool) → place (when b (level 0 p (to (p + length w))) (unexpected s p)) ≡ none
     go true = refl
     go false = unexpected-none s p
 
-level-some : (s : List ℕ) (left : ℕ) (w : List ℕ) (longer : List (List ℕ)) (p : ℕ) → ¬ (left ≡ 0) → opening s left w longer p ≡ marks s w longer p
+pub level-some : (s : List ℕ) (left : ℕ) (w : List ℕ) (longer : List (List ℕ)) (p : ℕ) → ¬ (left ≡ 0) → opening s left w longer p ≡ marks s w longer p
 level-some s zero w longer p n = absurd (n refl)
 level-some s (suc d) w longer p n = refl
 

@@ -51,7 +51,7 @@ no-keys k = go (eqb k 17) (eqb k 13) _ (eqb k 20) (eqb k 10)
     go false false false false false = refl
 
 -- what fits does not turn on levels and mode
-fit-any : (c : Class) (w : Want) (n : ℕ) (l : Bool) → T (fits (under 0 true w) c) → fits (under n l w) c ≡ true
+pub fit-any : (c : Class) (w : Want) (n : ℕ) (l : Bool) → T (fits (under 0 true w) c) → fits (under n l w) c ≡ true
 fit-any c w n l h = go c
   where
     t-is : (b : Bool) → T b → b ≡ true

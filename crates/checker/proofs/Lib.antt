@@ -7,6 +7,11 @@ mod Passes
 mod Directs
 mod Objects
 mod Bares
+pub mod Atoms
+mod Rests
+mod Seats
+mod Enclosures
+mod Layings
 mod Strands
 mod TextTurns
 pub mod Tables

@@ -7,6 +7,7 @@ pub mod Precedence
 pub mod Lone
 pub mod Lay
 pub mod Child
+pub mod Rest
 pub mod Token
 pub mod Texts
 pub mod Node

@@ -7,10 +7,12 @@ use lexis::utf8::first_bad;
 ghost use Rattle.checker.specs.Check.{Rooted, Ready, Walking, Checks};
 
 mod bare;
+mod bracket;
 mod direct;
 mod family;
 mod kinds;
 mod lay;
+mod layout;
 mod lone;
 mod moves;
 mod node;

@@ -8,6 +8,7 @@ use crate::kinds::first_at;
 use crate::kinds::hold;
 use crate::kinds::is_grown;
 use crate::lay::lay;
+use crate::layout::layout;
 use crate::object::object;
 use crate::precedence::groups;
 use crate::program::fits;
@@ -238,7 +239,22 @@ fn headed(
     if kind == Kind::OBJECT {
         return object(s, table, i, marks, depths, keys, first, start, left, lines);
     }
-    lay(s, table, i, marks, depths, first, start, left, lines)
+    if first == i {
+        return lay(s, table, i, marks, depths, first, start, left, lines);
+    }
+    layout(
+        s,
+        table,
+        i,
+        kind,
+        marks,
+        depths,
+        first,
+        start,
+        own,
+        left,
+        lines,
+    )
 }
 
 // A node of any kind but a piece, over the children that are linked from the row `first` on.

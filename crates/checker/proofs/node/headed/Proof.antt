@@ -46,13 +46,22 @@ returns-5 : tie.Need-returns-5
 returns-5 c = head-by _ _ _ _ _ _ _ _ (c .before .before .before .before .before .before .before .before .before .before .before .before .before .before .before .before .before .before .before .before .before .before .before .before .pre .2) (c .before .before .before .before .before .before .before .before .before .before .before .before .before .before .before .before .before .before .before .before .before .before .before .before .pre .3) (not-false _ (c .before .before .before .before .before .before .before .before .before .if4 .left)) (first-as (c .before .before .before .before .before .before .before .before .before .before .before .before .before .before .before .wide .ensures .0) (c .before .before .before .before .before .before .before .before .before .before .before .before .before .before .multi-line .ensures) (c .before .before .before .before .before .before .before .before .before .before .first-at .ensures)) (laid-as (c .before .before .before .before .before .before .before .before .before .before .before .before .before .before .before .wide .ensures .0) (c .before .before .before .before .before .before .before .before .levels .ensures .0) (c .before .before .before .before .before .before .before .before .before .before .before .before .before .before .multi-line .ensures) (c .before .before .before .before .object .ensures))
 
 lay-requires : tie.Need-lay-requires
-lay-requires c κs = (record { within = (c .before .before .before .before .before .before .before .before .before .before .before .before .before .before .before .before .before .before .pre .0 .within); marked = (c .before .before .before .before .before .before .before .before .before .before .before .before .before .before .before .before .before .before .pre .0 .marked); deep = (c .before .before .before .before .before .before .before .before .before .before .before .before .before .before .before .before .before .before .pre .0 .deep); js = (c .before .before .before .before .before .before .before .before .before .before .before .before .before .before .before .before .before .before .pre .1 .js); chain = (c .before .before .before .before .before .before .before .before .before .before .before .before .before .before .before .before .before .before .pre .1 .chain) }, (c .before .before .levels .ensures .1), head-known (c .before .before .before .before .before .before .before .before .before .before .before .before .before .before .before .before .before .before .args .s .now) (c .before .before .before .before .before .before .before .before .before .before .before .before .before .before .before .before .before .before .args .table .now) (c .before .before .before .before .before .before .before .before .before .before .before .before .before .before .before .before .before .before .args .i) (c .before .before .before .before .before .before .before .before .before .before .before .before .before .before .before .before .before .before .args .own) [] [] [] 0 (c .before .before .before .before .before .before .before .before .before .before .before .before .before .before .before .before .before .before .pre .2) (c .before .before .before .before .before .before .before .before .before .before .before .before .before .before .before .before .before .before .pre .3) (not-false _ (c .before .before .before .if4 .left)) (first-as (c .before .before .before .before .before .before .before .before .before .wide .ensures .0) (c .before .before .before .before .before .before .before .before .multi-line .ensures) (c .before .before .before .before .first-at .ensures)), (c .before .if5 .left), (c .before .before .before .before .before .before .before .before .before .before .before .before .before .before .before .before .before .before .pre .0 .small))
+lay-requires c κs = (record { within = (c .before .before .before .before .before .before .before .before .before .before .before .before .before .before .before .before .before .before .before .pre .0 .within); marked = (c .before .before .before .before .before .before .before .before .before .before .before .before .before .before .before .before .before .before .before .pre .0 .marked); deep = (c .before .before .before .before .before .before .before .before .before .before .before .before .before .before .before .before .before .before .before .pre .0 .deep); js = (c .before .before .before .before .before .before .before .before .before .before .before .before .before .before .before .before .before .before .before .pre .1 .js); chain = (c .before .before .before .before .before .before .before .before .before .before .before .before .before .before .before .before .before .before .before .pre .1 .chain) }, (c .before .before .before .levels .ensures .1), head-known (c .before .before .before .before .before .before .before .before .before .before .before .before .before .before .before .before .before .before .before .args .s .now) (c .before .before .before .before .before .before .before .before .before .before .before .before .before .before .before .before .before .before .before .args .table .now) (c .before .before .before .before .before .before .before .before .before .before .before .before .before .before .before .before .before .before .before .args .i) (c .before .before .before .before .before .before .before .before .before .before .before .before .before .before .before .before .before .before .before .args .own) [] [] [] 0 (c .before .before .before .before .before .before .before .before .before .before .before .before .before .before .before .before .before .before .before .pre .2) (c .before .before .before .before .before .before .before .before .before .before .before .before .before .before .before .before .before .before .before .pre .3) (not-false _ (c .before .before .before .before .if4 .left)) (first-as (c .before .before .before .before .before .before .before .before .before .before .wide .ensures .0) (c .before .before .before .before .before .before .before .before .before .multi-line .ensures) (c .before .before .before .before .before .first-at .ensures)), (c .before .before .if5 .left), (c .before .before .before .before .before .before .before .before .before .before .before .before .before .before .before .before .before .before .before .pre .0 .small))
 
 same-length-4 : tie.Need-same-length-4
 same-length-4 c = omega (arith, (c .before .before .lay .ensures .long))
 
 returns-6 : tie.Need-returns-6
-returns-6 c = head-by _ _ _ _ _ _ _ _ (c .before .before .before .before .before .before .before .before .before .before .before .before .before .before .before .before .before .before .before .before .before .pre .2) (c .before .before .before .before .before .before .before .before .before .before .before .before .before .before .before .before .before .before .before .before .before .pre .3) (not-false _ (c .before .before .before .before .before .before .if4 .left)) (first-as (c .before .before .before .before .before .before .before .before .before .before .before .before .wide .ensures .0) (c .before .before .before .before .before .before .before .before .before .before .before .multi-line .ensures) (c .before .before .before .before .before .before .before .first-at .ensures)) (laid-as (c .before .before .before .before .before .before .before .before .before .before .before .before .wide .ensures .0) (c .before .before .before .before .before .levels .ensures .0) (c .before .before .before .before .before .before .before .before .before .before .before .multi-line .ensures) (c .before .before .lay .ensures))
+returns-6 c = head-by _ _ _ _ _ _ _ _ (c .before .before .before .before .before .before .before .before .before .before .before .before .before .before .before .before .before .before .before .before .before .before .pre .2) (c .before .before .before .before .before .before .before .before .before .before .before .before .before .before .before .before .before .before .before .before .before .before .pre .3) (not-false _ (c .before .before .before .before .before .before .before .if4 .left)) (first-as (c .before .before .before .before .before .before .before .before .before .before .before .before .before .wide .ensures .0) (c .before .before .before .before .before .before .before .before .before .before .before .before .multi-line .ensures) (c .before .before .before .before .before .before .before .before .first-at .ensures)) (laid-as (c .before .before .before .before .before .before .before .before .before .before .before .before .before .wide .ensures .0) (c .before .before .before .before .before .before .levels .ensures .0) (c .before .before .before .before .before .before .before .before .before .before .before .before .multi-line .ensures) (c .before .before .lay .ensures))
+
+layout-requires : tie.Need-layout-requires
+layout-requires c κs = (record { within = (c .before .before .before .before .before .before .before .before .before .before .before .before .before .before .before .before .before .before .before .pre .0 .within); marked = (c .before .before .before .before .before .before .before .before .before .before .before .before .before .before .before .before .before .before .before .pre .0 .marked); deep = (c .before .before .before .before .before .before .before .before .before .before .before .before .before .before .before .before .before .before .before .pre .0 .deep); js = (c .before .before .before .before .before .before .before .before .before .before .before .before .before .before .before .before .before .before .before .pre .1 .js); chain = (c .before .before .before .before .before .before .before .before .before .before .before .before .before .before .before .before .before .before .before .pre .1 .chain) }, refl, head-known (c .before .before .before .before .before .before .before .before .before .before .before .before .before .before .before .before .before .before .before .args .s .now) (c .before .before .before .before .before .before .before .before .before .before .before .before .before .before .before .before .before .before .before .args .table .now) (c .before .before .before .before .before .before .before .before .before .before .before .before .before .before .before .before .before .before .before .args .i) (c .before .before .before .before .before .before .before .before .before .before .before .before .before .before .before .before .before .before .before .args .own) [] [] [] 0 (c .before .before .before .before .before .before .before .before .before .before .before .before .before .before .before .before .before .before .before .pre .2) (c .before .before .before .before .before .before .before .before .before .before .before .before .before .before .before .before .before .before .before .pre .3) (not-false _ (c .before .before .before .before .if4 .left)) (first-as (c .before .before .before .before .before .before .before .before .before .before .wide .ensures .0) (c .before .before .before .before .before .before .before .before .before .multi-line .ensures) (c .before .before .before .before .before .first-at .ensures)), (c .before .before .if5 .left), (c .before .before .before .before .before .before .before .before .before .before .before .before .before .before .before .before .before .before .before .pre .0 .small), (c .before .before .before .levels .ensures .0), (c .before .before .before .levels .ensures .1), (c .before .before .before .before .before .before .before .before .before .multi-line .ensures))
+
+same-length-5 : tie.Need-same-length-5
+same-length-5 c = omega (arith, (c .before .before .layout .ensures .long))
+
+returns-7 : tie.Need-returns-7
+returns-7 c = head-by _ _ _ _ _ _ _ _ (c .before .before .before .before .before .before .before .before .before .before .before .before .before .before .before .before .before .before .before .before .before .before .pre .2) (c .before .before .before .before .before .before .before .before .before .before .before .before .before .before .before .before .before .before .before .before .before .before .pre .3) (not-false _ (c .before .before .before .before .before .before .before .if4 .left)) (first-as (c .before .before .before .before .before .before .before .before .before .before .before .before .before .wide .ensures .0) (c .before .before .before .before .before .before .before .before .before .before .before .before .multi-line .ensures) (c .before .before .before .before .before .before .before .before .first-at .ensures)) (laid-as (c .before .before .before .before .before .before .before .before .before .before .before .before .before .wide .ensures .0) refl refl (c .before .before .layout .ensures))
 
 pub headed-spec : {M : Type 1} → statement M
 headed-spec =
@@ -83,4 +92,7 @@ headed-spec =
     returns-5
     lay-requires
     same-length-4
-    returns-6)
+    returns-6
+    layout-requires
+    same-length-5
+    returns-7)

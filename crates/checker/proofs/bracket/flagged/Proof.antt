@@ -1,0 +1,26 @@
+use mathlib.Core.Bool.{Bool, true, false, cond}
+use mathlib.Core.Path.{_≡_, refl, sym}
+use borrow.Author.Needs.{needs}
+use Rattle.checker.proofs.bracket.flagged.Statement.{statement}
+use Rattle.checker.proofs.bracket.flagged.Tie as tie
+
+returns : tie.Need-returns
+returns c = rw ((c .before .if1 .taken), (c .if2 .taken))
+
+returns-2 : tie.Need-returns-2
+returns-2 c = rw ((c .before .if1 .taken), (c .if2 .left))
+
+returns-3 : tie.Need-returns-3
+returns-3 c = rw ((c .before .if1 .left), (c .if3 .taken))
+
+returns-4 : tie.Need-returns-4
+returns-4 c = rw ((c .before .if1 .left), (c .if3 .left))
+
+pub flagged-spec : {M : Type 1} → statement M
+flagged-spec =
+    tie.close
+    (tie.spec
+    returns
+    returns-2
+    returns-3
+    returns-4)
