@@ -8,7 +8,7 @@ use native.Mathlib.Nat.{add-zero}
 use native.Mathlib.Omega.{arith}
 use lib.ListN.{length, getD, drop}
 use lib.Dec.{leb}
-use lib.Seq.{drop-cons, drop-drop}
+use lib.Seq.{drop-cons}
 use Rattle.lexis.specs.Bytes.{Byte, isWithin, isRest, run, runTo, byteAt, stands}
 use Rattle.lexis.specs.RunLaws.{front, empty, run-stop, stands-none, stands-on, stands-off}
 
@@ -60,20 +60,6 @@ module _ (w s : List ℕ) (p : ℕ) where
 
       pub all-fails : stands (getD w i 0 ∷ []) s (p + i) ≡ false → stands (drop i w) s (p + i) ≡ stands w s p → stands w s p ≡ false
       all-fails e f = sym f ∙ rw (drop-cons w i 0) (stands-off (getD w i 0) (drop (suc i) w) s (p + i) l e)
-
--- a run of bytes that pass a sharper test is a part of the run
-module _ (t u : ℕ → Bool) (sharper : (b : ℕ) → u b ≡ true → t b ≡ true) where
-  run-behind : (xs : List ℕ) → run u xs + run t (drop (run u xs) xs) ≡ run t xs
-  unfolding run
-  run-behind [] = refl
-  run-behind (x ∷ xs) = go (u x) refl (run-behind xs)
-    where
-      go : (b : Bool) → u x ≡ b → run u xs + run t (drop (run u xs) xs) ≡ run t xs → run u (x ∷ xs) + run t (drop (run u (x ∷ xs)) (x ∷ xs)) ≡ run t (x ∷ xs)
-      go true e h = rw (e, sharper x e) (omega (arith, h))
-      go false e h = rw e (omega arith)
-
-  pub run-past : (s : List ℕ) (i : ℕ) → runTo t s (runTo u s i) ≡ runTo t s i
-  run-past s i = let e = run-behind (drop i s) in rw (← drop-drop (run u (drop i s)) i s) (omega (arith, e))
 
 or-true : (x : Bool) → (x || true) ≡ true
 or-true true = refl

@@ -301,6 +301,9 @@ module _ (q f : Bool) {b : ℕ} (m : b ≡ 36 → ⊥) (n : b ≡ 37 → ⊥) (o
   pub plain-heredoc : q ≡ false → bool.not f ≡ plainIn q f b
   plain-heredoc e = sym (rw (ne-eqb b 36 m, ne-eqb b 37 n, ne-eqb b 256 o, e))
 
+  pub plain-over : q ≡ true → (b ≡ 34 → ⊥) → (b ≡ 92 → ⊥) → true ≡ plainIn q f b
+  plain-over e h g = sym (rw (ne-eqb b 36 m, ne-eqb b 37 n, ne-eqb b 256 o, ne-eqb b 34 h, ne-eqb b 92 g, e))
+
   pub plain-high : q ≡ true → (b ≡ 34 → ⊥) → bool.not (eqb b 92) ≡ plainIn q f b
   plain-high e h = sym (rw (ne-eqb b 36 m, ne-eqb b 37 n, ne-eqb b 256 o, ne-eqb b 34 h, e))
 

@@ -245,14 +245,20 @@ fn unit_in(s: &[u8], p: usize, quoted: bool, fresh: bool, d: usize, e: usize) ->
     }
 }
 
-// Whether b is text as it stands; fresh: a line starts with it. Most bytes are, so a run asks this first, and most of them are over the marks `$` and `%`.
+// Whether b is text as it stands; fresh: a line starts with it. Most bytes are, so a run asks this first, and most of them are letters, over the backslash.
 fn is_plain(b: u16, quoted: bool, fresh: bool) -> bool
     ensures { λ r. ⌜ r ≡ plainIn quoted fresh b ⌝ }
 {
-    if 37 < b {
+    if 92 < b {
         if b == NOTHING {
             return false;
         }
+        if quoted {
+            return true;
+        }
+        return !fresh;
+    }
+    if 37 < b {
         if !quoted {
             return !fresh;
         }

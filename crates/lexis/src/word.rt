@@ -5,25 +5,10 @@ use crate::bytes::is_rest;
 use crate::bytes::is_start;
 use crate::bytes::within;
 ghost use mathlib.Core.Path.{_≡_};
-ghost use Rattle.lexis.specs.Bytes.{isWithin, runTo, Ran};
+ghost use Rattle.lexis.specs.Bytes.{Ran};
 ghost use Rattle.lexis.specs.Word.{identTo, wordTo, constantAt, endsFor, forTo, in′, if′};
 
-// Past the small letters from p on: most words are made of them, and one test is enough for each.
-fn small_end(s: &[u8], p: usize) -> usize
-    ensures { λ r. ⌜ Ran (now (s .entry)) p (runTo (isWithin 97 122) (now (s .entry)) p) r ⌝ }
-{
-    let mut i = p;
-    while i < s.len() {
-        let b = byte_at(s, i);
-        if !within(b, 97, 122) {
-            return i;
-        }
-        i += 1;
-    }
-    i
-}
-
-// The end of the identifier at p; p where none starts.
+// The end of the identifier at p; p where none starts. Most words are made of small letters, so one test tells of most bytes.
 pub fn ident_end(s: &[u8], p: usize) -> usize
     ensures { λ r. ⌜ Ran (now (s .entry)) p (identTo (now (s .entry)) p) r ⌝ }
 {
@@ -32,14 +17,18 @@ pub fn ident_end(s: &[u8], p: usize) -> usize
         return p;
     }
     let mut i = p + 1;
-    loop {
-        i = small_end(s, i);
+    while i < s.len() {
         let c = byte_at(s, i);
+        if within(c, 97, 122) {
+            i += 1;
+            continue;
+        }
         if !is_rest(c) {
             return i;
         }
         i += 1;
     }
+    i
 }
 
 // The end of the word w at p; p where the identifier there is another.
