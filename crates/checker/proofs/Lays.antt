@@ -20,7 +20,7 @@ use Rattle.engine.specs.Layout.{Lay, bad, fin, move, kid, fork, rep}
 use Rattle.engine.specs.Rule.{Runs, rfin, rmove, rkid, ryes, rno, rrep, rend}
 use Rattle.grammar.specs.declared.shape.Instr.{Instr}
 use Rattle.grammar.specs.declared.moves.Went.{Went}
-use Rattle.grammar.specs.Moves.{Want, Under, Move, place, walk, keysOf, keyTo, lones, same}
+use Rattle.grammar.specs.Moves.{Want, Under, Move, place, walk, keysOf, lones, same}
 use Rattle.grammar.specs.Layouts.{Class, inside, single, key, value, test, branch, term, right, entry, called, portion, piecewise, filter, Layout, layoutOf}
 use Rattle.grammar.specs.Hcl.{hcl, under, downs, fits, styles}
 use Rattle.grammar.specs.Published.{Depth, depthOf, wantOf, wantAs}
@@ -31,6 +31,8 @@ use Rattle.checker.specs.Family.{Chain}
 use Rattle.checker.specs.Program.{codeIn, moveIn, classIn, Codes, All, beginIn, laidOut, right-coded, instructions, ahead, all-ahead, fitting, all-fitting, isEntry, itemed, all-itemed}
 use Rattle.checker.specs.Leaf.{InstrAt, GoneAt}
 use Rattle.checker.specs.declared.lone.Lone.{Lone}
+use Rattle.index.specs.declared.mark.Token.{Token}
+use Rattle.index.specs.Mark.{TokenHere}
 use Rattle.checker.specs.Lone.{signed, Behind}
 use Rattle.checker.specs.Child.{kidded, ChildBy}
 use Rattle.checker.specs.Lay.{coded, depthsAt, Both, KeysOf, Passing, PassedBy, Filled, Over, EndsAt, Laying, Children, LaidBy}
@@ -662,7 +664,7 @@ module _ (s t : List ℕ) (i left : ℕ) (lines : Bool) where
     rep-plain n e at g f = no-entry n (sort pc) (rep-as (w .lay) refl (w .codes) (w .fits) (w .items) e at g .itm) f
 
     -- what `pass` asks for
-    pub turn-passing : {K₀ : List ℕ} {c at k : ℕ} {r : Lone} → Laying t i m D₀ K₀ j₀ left → length K ≡ length K₀ → k ≡ keyTo s at → Behind s k r → Passing s t i m D K j n c left at k (r .yes)
+    pub turn-passing : {K₀ : List ℕ} {c at : ℕ} {k : Token} {r : Lone} → Laying t i m D₀ K₀ j₀ left → length K ≡ length K₀ → TokenHere s at k → Behind s (k .end) r → Passing s t i m D K j n c left at (k .mark) (r .yes)
     turn-passing a e f h = record {
       within = a .within;
       linked = (λ l. next-of m i (w .js) j (w .chain) l .far, chain-le m i (w .js) j (w .chain));
@@ -673,8 +675,8 @@ module _ (s t : List ℕ) (i left : ℕ) (lines : Bool) where
       indexed = w .indexed;
       fewer = w .few;
       few = a .few;
-      ended = λ z. f;
-      told = λ z. h .yes ∙ ap (signed s) f;
+      key = λ z. f .mark;
+      told = λ z. h .yes ∙ ap (signed s) (f .end);
     }
 
   -- ---- as the code says it

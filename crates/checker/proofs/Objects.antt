@@ -12,7 +12,7 @@ use Rattle.lexis.specs.Bytes.{Ran}
 use Rattle.lexis.specs.Operator.{markTo}
 use Rattle.engine.specs.Base.{has}
 use Rattle.grammar.specs.declared.moves.Went.{Went}
-use Rattle.grammar.specs.Moves.{Under, Move, gap, mark, opens, any, place, walk, keyTo}
+use Rattle.grammar.specs.Moves.{Under, Move, gap, mark, opens, any, place, walk}
 use Rattle.grammar.specs.Hcl.{under}
 use Rattle.grammar.specs.Said.{went, Moved}
 use Rattle.grammar.specs.Published.{wantOf}
@@ -22,6 +22,8 @@ use Rattle.checker.specs.declared.lone.Lone.{Lone}
 use Rattle.checker.specs.Rows.{rowAt}
 use Rattle.checker.specs.Program.{own, ownMove, codeIn, moveIn, beginIn, laidOut}
 use Rattle.checker.specs.LeafMore.{Goes, AfterBy}
+use Rattle.index.specs.declared.mark.Token.{Token}
+use Rattle.index.specs.Mark.{TokenHere}
 use Rattle.checker.specs.Lone.{Behind}
 use Rattle.checker.specs.Lay.{Passing, PassedBy, EndsAt, Laying, LaidBy}
 use Rattle.checker.proofs.Goings.{open-deep, open-on, open-no, any-on, any-no, shut-on, shut-no}
@@ -126,7 +128,7 @@ module _ (s t : List ℕ) (i left : ℕ) (lines : Bool) (m D : List ℕ) (j p : 
   -- ---- an item
 
   module _ {D′ K : List ℕ} {at x n : ℕ} where
-    pub ahead-passing : {K₀ : List ℕ} {k : ℕ} {r : Lone} → Ahead D′ K at x n → Laying t i m D K₀ j left → length K ≡ length K₀ → k ≡ keyTo s at → Behind s k r → Passing s t i m D′ K x n 7 left at k (r .yes)
+    pub ahead-passing : {K₀ : List ℕ} {k : Token} {r : Lone} → Ahead D′ K at x n → Laying t i m D K₀ j left → length K ≡ length K₀ → TokenHere s at k → Behind s (k .end) r → Passing s t i m D′ K x n 7 left at (k .mark) (r .yes)
     ahead-passing (inl w) a e f h = turn-passing s t i left lines w a e f h
     ahead-passing (inr (q, w, g)) a e f h = turn-passing s t i left lines w a e f h
 

@@ -8,16 +8,15 @@ use native.Mathlib.Nat.{sub-zero}
 use lib.ListN.{length, getD, set, take, drop, length-set}
 use lib.Dec.{eqb, T}
 use borrow.Author.Tests.{eqb-true, eqb-false, eq-eqb, ne-eqb}
-use Rattle.lexis.specs.Bytes.{byteAt, isStart, Byte}
 use Rattle.lexis.specs.Keys.{among, sameKey}
-use Rattle.index.specs.Mark.{WordTo}
+use Rattle.index.specs.Mark.{markAt}
 use Rattle.index.specs.Index.{Indexed, Inserted}
 use Rattle.index.specs.Index as index
 use Rattle.lexis.specs.RunLaws.{clash}
 use Rattle.engine.specs.Base.{Rec, has}
 use Rattle.grammar.specs.declared.shape.Child.{Child}
 use Rattle.grammar.specs.Kinds.{tightOf}
-use Rattle.grammar.specs.Moves.{Want, anExpression, keyTo, lone, lones}
+use Rattle.grammar.specs.Moves.{Want, anExpression, lone, lones}
 use Rattle.grammar.specs.Layouts.{Class, entry}
 use Rattle.grammar.specs.Hcl.{under, downs, bounds, styles, starts}
 use Rattle.grammar.specs.Published.{Depth, depth, depthOf, kindsOf, More, Suits}
@@ -142,18 +141,12 @@ module _ (s K : List ℕ) (n p w : ℕ) (ix : Indexed s K 0 n) where
         ∙ ap (λ (o : ℕ). sameKey s o y || among s (lones s (starts ks)) y) (sym h) ∙ sym (among-cons s (lones s (starts ks)) (x .start) y) ∙ ap (λ (o : List ℕ). among s o y) (sym (lones-yes s x ks (ap (lone s) h ∙ e)));
   }
 
--- the mark of a key that is a word
-pub marked-word : {s : List ℕ} {p e b : ℕ} {r : Bool} → Byte s p b → r ≡ isStart b → r ≡ true → e ≡ keyTo s p → WordTo s p e
-marked-word {s} {p} h f z e =
-    let i : isStart (byteAt s p) ≡ true = ap isStart (sym (h .is)) ∙ sym f ∙ z in
-    record { starts = i; ends = e ∙ rw (ne-eqb (byteAt s p) 34 (λ y. clash (sym i ∙ ap isStart y))) }
-
 -- an item's key is looked at where its place is
 pub meet-told : (s : List ℕ) {t : List ℕ} {j at n w c left : ℕ} {lines a r : Bool} {y : Child} → (classIn c ≡ entry → a ≡ lone s at) → ChildAt c left lines y → SuitsAt t j at n w r → r ≡ true → y .want ≡ 4 → a ≡ lone s ((rowAt t j) .start)
 meet-told s f h g e z = f (h .item z) ∙ ap (lone s) (sym (g .start e))
 
-pub meet-ended : (s : List ℕ) {t : List ℕ} {j at n w c left e : ℕ} {lines r : Bool} {y : Child} → (classIn c ≡ entry → e ≡ keyTo s at) → ChildAt c left lines y → SuitsAt t j at n w r → r ≡ true → y .want ≡ 4 → e ≡ keyTo s ((rowAt t j) .start)
-meet-ended s f h g e z = f (h .item z) ∙ ap (keyTo s) (sym (g .start e))
+pub meet-key : (s : List ℕ) {t : List ℕ} {j at n w c left m : ℕ} {lines r : Bool} {y : Child} → (classIn c ≡ entry → m ≡ markAt s at) → ChildAt c left lines y → SuitsAt t j at n w r → r ≡ true → y .want ≡ 4 → m ≡ markAt s ((rowAt t j) .start)
+meet-key s f h g e z = f (h .item z) ∙ ap (markAt s) (sym (g .start e))
 
 -- ---- a depth in one number
 

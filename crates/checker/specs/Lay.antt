@@ -8,10 +8,11 @@ use lib.Dec.{T, eqb}
 use Rattle.lexis.specs.Keys.{among}
 use Rattle.index.specs.Index.{Indexed}
 use Rattle.index.specs.Index as index
+use Rattle.index.specs.Mark.{markAt}
 use Rattle.engine.specs.Base.{Rec, has}
 use Rattle.engine.specs.Rule.{Runs}
 use Rattle.grammar.specs.Kinds.{tightOf}
-use Rattle.grammar.specs.Moves.{Want, Under, to, gap, here, operator, walk, keyTo, lone, lones}
+use Rattle.grammar.specs.Moves.{Want, Under, to, gap, here, operator, walk, lone, lones}
 use Rattle.grammar.specs.Layouts.{Class, entry, Layout, layoutOf, operatorLay}
 use Rattle.grammar.specs.Hcl.{hcl, under, downs, bounds, styles, starts}
 use Rattle.grammar.specs.Published.{Depth, depth, depthOf, wantOf, Suits}
@@ -82,7 +83,7 @@ abbrev pub noPass : ℕ → Passed
 noPass n = record { good = false; end = 0; next = 0; keys = n }
 
 -- what `pass` asks for
-pub record Passing (s t : List ℕ) (i : ℕ) (m D K : List ℕ) (j n c left at e : ℕ) (alone : Bool) : Type 0 where
+pub record Passing (s t : List ℕ) (i : ℕ) (m D K : List ℕ) (j n c left at h : ℕ) (alone : Bool) : Type 0 where
   pub within : 7 * i + 7 ≤ length t
   pub linked : (j < i → getD m j 0 ≤ i) × (j ≤ i)
   pub marked : i < length m
@@ -92,7 +93,7 @@ pub record Passing (s t : List ℕ) (i : ℕ) (m D K : List ℕ) (j n c left at 
   pub indexed : Indexed s K 0 n
   pub fewer : n ≤ j
   pub few : left ≤ 127
-  pub ended : classIn c ≡ entry → e ≡ keyTo s at
+  pub key : classIn c ≡ entry → h ≡ markAt s at
   pub told : classIn c ≡ entry → alone ≡ lone s at
 
 -- `r` says whether the row j is a child of the class c at the place `at`; then its depth is put down

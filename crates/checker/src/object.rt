@@ -5,7 +5,7 @@ use crate::lone::alone;
 use crate::moves::after;
 use crate::pass::pass;
 use grammar::moves::space;
-use grammar::picks::key_end;
+use index::mark::token_at;
 use lexis::operator::mark_end;
 ghost use mathlib.Core.Path.{_≡_};
 ghost use Rattle.checker.specs.Rows.{rowAt};
@@ -54,8 +54,8 @@ pub fn object(
         yes: false,
     };
     loop {
-        let k = key_end(s, at);
-        let key = alone(s, k, memo);
+        let t = token_at(s, at);
+        let key = alone(s, t.end, memo);
         let c = pass(
             s,
             table,
@@ -69,7 +69,7 @@ pub fn object(
             left,
             lines,
             at,
-            k,
+            t.mark,
             key.yes,
         );
         if !c.good {

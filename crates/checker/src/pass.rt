@@ -6,16 +6,12 @@ use crate::program::sits;
 use crate::rows::wide;
 use index::find;
 use index::insert;
-use index::mark::mark;
-use index::mark::word_to;
-use lexis::bytes::byte_at;
-use lexis::bytes::is_start;
 ghost use mathlib.Core.Path.{_≡_};
 ghost use mathlib.Core.Bool.{cond};
 ghost use Prim.Native.Nat.{_+_, _*_, _≤_};
 ghost use lib.ListN.{length};
 ghost use Rattle.index.specs.Mark.{markAt};
-ghost use Rattle.grammar.specs.Moves.{keyTo, lone};
+ghost use Rattle.grammar.specs.Moves.{lone};
 ghost use Rattle.checker.specs.Child.{ChildBy};
 ghost use Rattle.checker.specs.Lay.{SuitsAt, Seating, KidBy, Meeting, MetAt, noPass, Passing, PassedBy};
 
@@ -80,21 +76,10 @@ pub fn kid(
     true
 }
 
-// The mark of the key at p, whose first token ends at e.
-fn marked(s: &[u8], p: usize, e: usize) -> u16
-    requires { ⌜ e ≡ keyTo (now s) p ⌝ }
-    ensures { λ r. ⌜ r ≡ markAt (now (s .entry)) p ⌝ }
-{
-    if is_start(byte_at(s, p)) {
-        return word_to(s, p, e);
-    }
-    mark(s, p)
-}
-
-// Of an item that starts at p, with a key whose first token ends at e: whether its key is one of the n in the slots of `keys`. Where it stands alone, and so may be
-// compared, it is kept there.
-fn meet(s: &[u8], keys: &mut [u16], n: usize, p: u16, e: usize, want: u8, alone: bool) -> Met
-    requires { ⌜ Meeting (now s) (now keys) n × (want ≡ 4 → e ≡ keyTo (now s) p) × (want ≡ 4 → alone ≡ lone (now s) p) ⌝ }
+// Of an item that starts at p, whose key has the mark m: whether its key is one of the n in the slots of `keys`. Where it stands alone, and so may be compared, it is
+// kept there.
+fn meet(s: &[u8], keys: &mut [u16], n: usize, p: u16, m: u16, want: u8, alone: bool) -> Met
+    requires { ⌜ Meeting (now s) (now keys) n × (want ≡ 4 → m ≡ markAt (now s) p) × (want ≡ 4 → alone ≡ lone (now s) p) ⌝ }
     ensures { λ r. ⌜ MetAt (now (s .entry)) (now (keys .entry)) (now (keys .exit)) n p want r ⌝ }
 {
     if want != ITEM {
@@ -110,7 +95,6 @@ fn meet(s: &[u8], keys: &mut [u16], n: usize, p: u16, e: usize, want: u8, alone:
         };
     }
     let a = wide(p);
-    let m = marked(s, a, e);
     if find(s, keys, 0, n, a, m) {
         return Met { met: true, keys: n };
     }
@@ -163,8 +147,8 @@ fn missed(n: usize) -> Passed
     }
 }
 
-// The j-th row as a child of a class at a place, in the node of the i-th row, after n keys. Of an item there the key's first token ends at e, and `alone` says whether it
-// stands alone.
+// The j-th row as a child of a class at a place, in the node of the i-th row, after n keys. Of an item there the key has the mark m, and `alone` says whether it stands
+// alone.
 // Where it is right its depth is put down.
 pub fn pass(
     s: &[u8],
@@ -179,10 +163,10 @@ pub fn pass(
     left: usize,
     lines: bool,
     at: usize,
-    e: usize,
+    m: u16,
     alone: bool,
 ) -> Passed
-    requires { ⌜ Passing (now s) (now table) i (now marks) (now depths) (now keys) j n class left at e alone ⌝ }
+    requires { ⌜ Passing (now s) (now table) i (now marks) (now depths) (now keys) j n class left at m alone ⌝ }
     ensures { λ r. ⌜ PassedBy (now (s .entry)) (now (table .entry)) i (now (marks .entry)) (now (depths .entry)) (now (depths .exit)) (now (keys .entry)) (now (keys .exit)) j n class left lines at r ⌝ }
 {
     if j == i {
@@ -192,7 +176,7 @@ pub fn pass(
     if !suits(table, j, at, y.bound, y.want) {
         return missed(n);
     }
-    let k = meet(s, keys, n, table[7 * j + 2], e, y.want, alone);
+    let k = meet(s, keys, n, table[7 * j + 2], m, y.want, alone);
     if k.met {
         return missed(n);
     }

@@ -10,15 +10,16 @@ use borrow.Author.Tests.{eq-eqb, ne-eqb}
 use Rattle.lexis.specs.Bytes.{byteAt, isStart, isRest, run, runTo, Byte}
 use Rattle.lexis.specs.Word.{identTo}
 use Rattle.lexis.specs.Heredoc.{freshAt}
-use Rattle.lexis.specs.String.{Unit, is, not, quoted, Text, unit, unitIn, textAt, unpacked, pieceOf, UnitHere}
+use Rattle.lexis.specs.String.{Unit, is, not, quoted, Text, unit, unitIn, textAt, unpacked, pieceOf, UnitHere, RunHere}
 use Rattle.lexis.specs.Keys.{restOf}
-use Rattle.lexis.specs.RunLaws.{default, inside, clash, run-on, run-stop}
+use Rattle.lexis.specs.RunLaws.{default, inside, clash, run-on, run-stop, run-end}
 use Rattle.lexis.specs.declared.string.Piece.{Piece}
+use Rattle.lexis.specs.declared.string.Run.{Run}
 use Rattle.lexis.proofs.Units.{Bytewise, Sound, unit-sound}
 use Rattle.lexis.proofs.Texts.{step, stop, bytewise-drop}
 use Rattle.lexis.proofs.Writes.{unpack}
 use Rattle.lexis.proofs.Sames.{rest-on, rest-off}
-use Rattle.index.specs.Mark.{mixed, mixedAll, markAt, Mixed, WordTo}
+use Rattle.index.specs.Mark.{mixed, mixedAll, markAt, Mixed, WordTo, tokenTo, TokenHere}
 
 -- the bytes l are mixed into m₀; those of `rest` are left, and m is the mark of the others
 pub record Mixing (m₀ : ℕ) (l rest : List ℕ) (m : ℕ) : Type 0 where
@@ -113,6 +114,28 @@ module _ {s : List ℕ} {p e m i : ℕ} (g : Wording s p e m i) where
       let n : restOf (drop i s) ≡ [] = rw z in
       mix-end (g .mixing) n .is ∙ sym (rw (ne-eqb (byteAt s p) 34 (λ v. clash (sym (w .starts) ∙ ap isStart v)), w .starts))
 
+-- a word, with its end
+pub word-to : (s : List ℕ) (p : ℕ) → isStart (byteAt s p) ≡ true → WordTo s p (identTo s p)
+word-to s p e = record { starts = e; ends = refl }
+
+module _ {s : List ℕ} {p m i : ℕ} (g : Wording s p (identTo s p) m i) where
+  pub wording-on : {b r : ℕ} → Byte s i b → isRest b ≡ true → (r ≡ mixed m b) × (r ≤ 65535) → Wording s p (identTo s p) r (i + 1)
+  wording-on {b} h e f =
+      let t : isRest (byteAt s i) ≡ true = ap isRest (sym (h .is)) ∙ e in
+      record { mixing = word-more (g .mixing) h e f; runs = run-on isRest s i (inside isRest s i refl t) t ∙ g .runs }
+
+  token-word : isStart (byteAt s p) ≡ true → runTo isRest s i ≡ i → {e k : ℕ} → e ≡ i → k ≡ m → TokenHere s p (record { end = e; mark = k })
+  token-word st z a b = record {
+    end = a ∙ sym z ∙ g .runs ∙ sym (rw (ne-eqb (byteAt s p) 34 (λ v. clash (sym st ∙ ap isStart v))));
+    mark = b ∙ wording-end g (word-to s p st) (omega (arith, z, g .runs));
+  }
+
+  pub token-stop : {b : ℕ} → isStart (byteAt s p) ≡ true → Byte s i b → isRest b ≡ false → TokenHere s p (record { end = i; mark = m })
+  token-stop st h e = token-word st (run-stop isRest s i (ap isRest (sym (h .is)) ∙ e)) refl refl
+
+  pub token-last : isStart (byteAt s p) ≡ true → length s ≤ i → TokenHere s p (record { end = i; mark = m })
+  token-last st l = token-word st (run-end isRest s i l) refl refl
+
 -- quoted text, unit by unit
 unit-in : (f : Bool) (l : List ℕ) → unitIn quoted f l ≡ unit true l
 unfolding unit
@@ -153,3 +176,9 @@ module _ {s : List ℕ} {p b : ℕ} (h : Byte s p b) where
     pub mark-word : {r : ℕ} → isStart b ≡ true → Mixed 0 (restOf (drop p s)) r → r ≡ markAt s p
     unfolding markAt
     mark-word e f = f .is ∙ rw (not-text, rw (h .is) at e)
+
+    pub token-none : isStart b ≡ false → TokenHere s p (record { end = p; mark = 0 })
+    token-none e = record { end = sym (rw (not-text, rw (h .is) at e)); mark = mark-none e }
+
+  pub token-text : {t : Run} {m : ℕ} → b ≡ 34 → RunHere quoted s (p + 1) t → Mixed 0 (textAt quoted s (p + 1) .bytes) m → TokenHere s p (record { end = t .end + 1; mark = m })
+  token-text {t} {m} e f g = record { end = rw (eq-eqb (byteAt s p) 34 (sym (h .is) ∙ e)) (omega (arith, ap (λ (x : Run). x .end) (f .is))); mark = mark-text e g }

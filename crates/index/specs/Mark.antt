@@ -9,6 +9,7 @@ use Rattle.lexis.specs.Bytes.{byteAt, isStart}
 use Rattle.lexis.specs.Word.{identTo}
 use Rattle.lexis.specs.String.{quoted, textAt}
 use Rattle.lexis.specs.Keys.{restOf}
+use Rattle.index.specs.declared.mark.Token.{Token}
 
 -- a byte more
 abbrev pub mixed : ℕ → ℕ → ℕ
@@ -34,3 +35,12 @@ pub record Mixed (m : ℕ) (l : List ℕ) (r : ℕ) : Type 0 where
 pub record WordTo (s : List ℕ) (p e : ℕ) : Type 0 where
   pub starts : isStart (byteAt s p) ≡ true
   pub ends : e ≡ identTo s p
+
+-- where the first token of the key at p ends: a word or a plain string
+abbrev pub tokenTo : List ℕ → ℕ → ℕ
+tokenTo s p = cond (eqb (byteAt s p) 34) (p + 2 + textAt quoted s (p + 1) .width) (identTo s p)
+
+-- `r` is that token's end, and the key's mark
+pub record TokenHere (s : List ℕ) (p : ℕ) (r : Token) : Type 0 where
+  pub end : r .end ≡ tokenTo s p
+  pub mark : r .mark ≡ markAt s p

@@ -2,13 +2,17 @@
 use lexis::bytes::byte_at;
 use lexis::bytes::is_rest;
 use lexis::bytes::is_start;
+use lexis::bytes::within;
+use lexis::string::run_at;
 use lexis::string::unit_at;
 ghost use mathlib.Core.Path.{_≡_};
 ghost use Prim.Native.Nat.{_≤_};
 ghost use lib.ListN.{drop};
+ghost use mathlib.Core.Bool.{true};
+ghost use Rattle.lexis.specs.Bytes.{byteAt, isStart};
 ghost use Rattle.lexis.specs.Keys.{restOf};
 ghost use Rattle.lexis.specs.String.{quoted, textAt, unpacked};
-ghost use Rattle.index.specs.Mark.{mixed, markAt, Mixed, WordTo};
+ghost use Rattle.index.specs.Mark.{mixed, markAt, Mixed, WordTo, TokenHere};
 
 // The mark m with the byte b behind it.
 fn mix(m: u32, b: u32) -> u32
@@ -93,4 +97,59 @@ pub fn mark(s: &[u8], p: usize) -> u16
         return 0;
     }
     word(s, p) as u16
+}
+
+// The first token of a key, a word or a plain string: its end, and the key's mark.
+pub struct Token {
+    pub end: usize,
+    pub mark: u16,
+}
+
+// The word at p, with one look at each of its bytes.
+fn word_at(s: &[u8], p: usize) -> Token
+    requires { ⌜ isStart (byteAt (now s) p) ≡ true ⌝ }
+    ensures { λ r. ⌜ TokenHere (now (s .entry)) p r ⌝ }
+{
+    let mut m: u32 = 0;
+    let mut i = p;
+    while i < s.len() {
+        let b = byte_at(s, i);
+        if within(b, 97, 122) {
+            m = mix(m, b as u32);
+            i += 1;
+            continue;
+        }
+        if !is_rest(b) {
+            return Token {
+                end: i,
+                mark: m as u16,
+            };
+        }
+        m = mix(m, b as u32);
+        i += 1;
+    }
+    Token {
+        end: i,
+        mark: m as u16,
+    }
+}
+
+// The first token of the key at p; where there is none it ends at p.
+pub fn token_at(s: &[u8], p: usize) -> Token
+    ensures { λ r. ⌜ TokenHere (now (s .entry)) p r ⌝ }
+{
+    let b = byte_at(s, p);
+    if is_start(b) {
+        return word_at(s, p);
+    }
+    if b != 34 {
+        return Token { end: p, mark: 0 };
+    }
+    let t = run_at(s, p + 1, true, 0, 0);
+    let e = t.end;
+    let m = text(s, p + 1);
+    Token {
+        end: e + 1,
+        mark: m as u16,
+    }
 }

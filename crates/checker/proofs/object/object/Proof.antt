@@ -39,7 +39,7 @@ alone-requires : tie.Need-alone-requires Inv-loop μ-loop
 alone-requires c κs = (c .before .loop .inv .3)
 
 pass-requires : tie.Need-pass-requires Inv-loop μ-loop
-pass-requires c κs = ahead-passing _ _ _ _ _ _ _ _ _ (c .before .before .before .before .loop .inv .0) (c .before .before .before .before .loop .inv .1) (c .before .before .before .before .loop .inv .2) (c .before .before .before .key-end .ensures) (c .before .before .alone .ensures)
+pass-requires c κs = ahead-passing _ _ _ _ _ _ _ _ _ (c .before .before .before .before .loop .inv .0) (c .before .before .before .before .loop .inv .1) (c .before .before .before .before .loop .inv .2) (c .before .before .before .token-at .ensures) (c .before .before .alone .ensures)
 
 same-length : tie.Need-same-length Inv-loop μ-loop
 same-length c = omega (arith, (c .before .before .before .before .before .before .pass .ensures .long), ahead-long _ _ _ _ _ _ _ _ _ (c .before .before .before .before .before .before .before .before .before .before .before .loop .inv .0))

@@ -1,7 +1,7 @@
 use native.Mathlib.Omega.{arith}
 use mathlib.Core.Path.{_≡_, refl, sym, _∙_}
 use borrow.Author.Tests.{not-true, not-false}
-use Rattle.checker.proofs.Passes.{meet-ended, meet-told, pass-no, pass-suits, pass-met, pass-yes}
+use Rattle.checker.proofs.Passes.{meet-key, meet-told, pass-no, pass-suits, pass-met, pass-yes}
 use borrow.Author.Needs.{needs}
 use Rattle.checker.proofs.pass.pass.Statement.{statement}
 use Rattle.checker.proofs.pass.pass.Tie as tie
@@ -15,7 +15,7 @@ returns-2 c = pass-suits _ _ _ _ _ _ _ _ _ _ _ _ (c .before .before .before .chi
 meet-requires : tie.Need-meet-requires
 meet-requires c κs = (
   record { indexed = (c .before .before .before .before .before .before .before .before .before .before .before .pre .indexed); room = omega (arith, (c .before .before .before .before .before .before .before .before .before .before .before .pre .keyed), (c .before .before .before .before .before .before .before .before .before .before .before .pre .fewer), (c .before .before .before .before .before .before .before .before .before .before .before .pre .linked .1)); few = omega (arith, (c .before .before .before .before .before .before .before .before .before .before .before .pre .small), (c .before .before .before .before .before .before .before .before .before .before .before .pre .fewer), (c .before .before .before .before .before .before .before .before .before .before .before .pre .linked .1)) },
-  meet-ended (c .before .before .before .before .before .before .before .before .before .before .before .args .s .now) (c .before .before .before .before .before .before .before .before .before .before .before .pre .ended) (c .before .before .before .before .child .ensures) (c .before .before .before .suits .ensures) (not-false _ (c .before .before .if2 .left)),
+  meet-key (c .before .before .before .before .before .before .before .before .before .before .before .args .s .now) (c .before .before .before .before .before .before .before .before .before .before .before .pre .key) (c .before .before .before .before .child .ensures) (c .before .before .before .suits .ensures) (not-false _ (c .before .before .if2 .left)),
   meet-told (c .before .before .before .before .before .before .before .before .before .before .before .args .s .now) (c .before .before .before .before .before .before .before .before .before .before .before .pre .told) (c .before .before .before .before .child .ensures) (c .before .before .before .suits .ensures) (not-false _ (c .before .before .if2 .left)),
 )
 
