@@ -7,6 +7,7 @@ use crate::family::family;
 use crate::kinds::first_at;
 use crate::kinds::is_grown;
 use crate::lay::lay;
+use crate::layout::growth;
 use crate::layout::layout;
 use crate::object::object;
 use crate::precedence::groups;
@@ -201,7 +202,18 @@ fn grown(
     if x.end != end {
         return operator(s, table, i, marks, depths, next, x.end, own, lines);
     }
-    lay(s, table, i, marks, depths, next, end, levels(own), lines)
+    growth(
+        s,
+        table,
+        i,
+        marks,
+        depths,
+        next,
+        end,
+        own,
+        levels(own),
+        lines,
+    )
 }
 
 // A node that begins with its own bytes, or is told by its place, and holds no literal text.
