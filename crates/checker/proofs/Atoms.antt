@@ -8,9 +8,9 @@ use native.Mathlib.Omega.{arith}
 use Rattle.lexis.specs.Bytes.{Ran}
 use Rattle.lexis.specs.Operator.{markTo}
 use Rattle.grammar.specs.declared.moves.Went.{Went}
-use Rattle.grammar.specs.Moves.{Under, Step, to, then, place, Atom, gap, mark, opens, any, here, marks, opening, atom, Move, walk}
+use Rattle.grammar.specs.Moves.{Under, Step, to, no, then, place, Atom, gap, mark, opens, any, here, parts, isPart, marks, opening, atom, Move, walk}
 use Rattle.grammar.specs.Said.{Moved}
-use Rattle.checker.proofs.Goings.{then-none, past-none, past-some, mark-comes, level-none, level-some}
+use Rattle.checker.proofs.Goings.{unexpected-none, then-none, past-none, past-some, mark-comes, level-none, level-some}
 
 -- the move m goes from p to q; it can't be made
 pub record To (s : List ℕ) (b : Under) (σ : ℕ) (m : Move) (p q : ℕ) : Type 0 where
@@ -100,3 +100,30 @@ module _ {s : List ℕ} {b : Under} {σ p : ℕ} {m : Move} where
   pub deep-open : {w : List ℕ} → b .left ≡ 0 → Not s b σ (opens w [] ∷ m) p
   unfolding atom
   deep-open {w} z = stuck (opens w []) (rw z (level-none s w [] p))
+
+  -- a part of a traversal
+  pub to-part : {q : ℕ} → isPart s p ≡ true → To s b σ m p q → To s b σ (parts ∷ m) p q
+  unfolding atom
+  to-part e x = on parts (rw e) x
+
+  pub not-part : isPart s p ≡ false → Not s b σ (parts ∷ m) p
+  unfolding atom
+  not-part e = stuck parts (rw e (unexpected-none s p))
+
+  -- nothing behind it can be made
+  pub blocked : (a : Atom) → ((q : ℕ) → Not s b σ m q) → Not s b σ (a ∷ m) p
+  unfolding walk
+  blocked a f = record { is = go (atom s b σ a p) }
+    where
+      go : (x : Step) → place (then x (walk s b σ m)) ≡ none
+      go (to q) = f q .is
+      go (no k q) = refl
+
+-- where levels are left, a mark that opens one is as any other
+pub open-same : (s : List ℕ) (b : Under) (σ : ℕ) (a : Atom) (w : List ℕ) (p : ℕ) → ¬ (b .left ≡ 0) → place (walk s b σ (a ∷ mark w [] ∷ []) p) ≡ place (walk s b σ (a ∷ opens w [] ∷ []) p)
+unfolding walk atom
+open-same s b σ a w p n = go (atom s b σ a p)
+  where
+    go : (x : Step) → place (then x (λ q. then (marks s w [] q) to)) ≡ place (then x (λ q. then (opening s (b .left) w [] q) to))
+    go (to q) = ap (λ (y : Step). place (then y to)) (sym (level-some s (b .left) w [] q n))
+    go (no k q) = refl

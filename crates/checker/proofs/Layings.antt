@@ -4,7 +4,7 @@ use mathlib.Core.Path.{_≡_, sym, ap}
 use mathlib.Core.Bool.{Bool}
 use mathlib.Core.List.{List}
 use lib.Dec.{eqb}
-use Rattle.grammar.specs.Layouts.{Layout, layouts, layoutOf, interpolationLay}
+use Rattle.grammar.specs.Layouts.{Layout, layouts, layoutOf, interpolationLay, traversalLay, conditionalLay}
 use Rattle.checker.specs.Rows.{rowAt}
 use Rattle.checker.specs.Lay.{LaidBy}
 use Rattle.checker.specs.Rest.{RestBy, enclosedLay}
@@ -22,3 +22,11 @@ module _ {s t : List ℕ} {i v : ℕ} {m D D′ : List ℕ} {j p : ℕ} {r : Boo
   pub index-laid : (rowAt t i) .kind ≡ 42 → RestBy s t i v m D D′ (enclosedLay 91 93) j p r → LaidBy s t i m D D′ j p (v / 2) (eqb (v % 2) 1) r
   unfolding layouts
   index-laid is h = rest-laid s t i v m (ap layoutOf (sym is)) h
+
+  pub traversal-laid : (rowAt t i) .kind ≡ 37 → RestBy s t i v m D D′ traversalLay j p r → LaidBy s t i m D D′ j p (v / 2) (eqb (v % 2) 1) r
+  unfolding layouts
+  traversal-laid is h = rest-laid s t i v m (ap layoutOf (sym is)) h
+
+  pub conditional-laid : (rowAt t i) .kind ≡ 21 → RestBy s t i v m D D′ conditionalLay j p r → LaidBy s t i m D D′ j p (v / 2) (eqb (v % 2) 1) r
+  unfolding layouts
+  conditional-laid is h = rest-laid s t i v m (ap layoutOf (sym is)) h

@@ -11,6 +11,9 @@ pub mod Atoms
 mod Rests
 mod Seats
 mod Enclosures
+mod Onwards
+mod Traversals
+mod Conditionals
 mod Layings
 mod Strands
 mod TextTurns

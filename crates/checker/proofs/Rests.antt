@@ -15,7 +15,7 @@ use Rattle.engine.specs.BaseLaws.{some-is}
 use Rattle.engine.specs.Layout.{Lay, fin, move, kid, fork, rep}
 use Rattle.engine.specs.Rule.{Runs, rfin, rmove, rkid, ryes, rno, rrep, rend}
 use Rattle.grammar.specs.declared.shape.Child.{Child}
-use Rattle.grammar.specs.Moves.{Under, Move}
+use Rattle.grammar.specs.Moves.{Under, Move, place, walk}
 use Rattle.grammar.specs.Layouts.{Class, entry, Layout, layoutOf}
 use Rattle.grammar.specs.Hcl.{hcl, under, downs, fits, styles}
 use Rattle.grammar.specs.Published.{Depth, depthOf, wantOf}
@@ -77,6 +77,12 @@ module _ (s t : List ℕ) (i v : ℕ) (m : List ℕ) where
   rest-move {l = l} {q = q} g h =
       same-kids (λ ks rs bs o. rmove q (g .is) o)
       (λ ks rs bs o. let (y, f, u) = over-move (hcl s) (Both s) o in subst (λ (z : ℕ). Over s t i (v / 2) (eqb (v % 2) 1) ks l z rs bs) (some-is (sym f ∙ g .is)) u) h
+
+  -- a move that comes to the same
+  pub rest-swap : {D D′ : List ℕ} {l : Layout} {j p : ℕ} {x y : Move} {r : Bool} → place (walk s att start x p) ≡ place (walk s att start y p) → Rest D D′ (move x l) j p r → Rest D D′ (move y l) j p r
+  rest-swap e h =
+      same-kids (λ ks rs bs o. let (q, f, u) = over-move (hcl s) (Both s) o in rmove q (sym e ∙ f) u)
+      (λ ks rs bs o. let (q, f, u) = over-move (hcl s) (Both s) o in rmove q (e ∙ f) u) h
 
   pub rest-fork : {D D′ : List ℕ} {l l′ : Layout} {j p q : ℕ} {x : Move} {r : Bool} → To s att start x p q → Rest D D′ l j q r → Rest D D′ (fork x l l′) j p r
   rest-fork {q = q} g h = same-kids (λ ks rs bs o. ryes q (g .is) o) (λ ks rs bs o. over-yes (hcl s) (Both s) (g .is) o) h

@@ -1,12 +1,12 @@
 -- What a child of a class is under: its depth in one number.
 use Prim.Native.Nat.{ℕ, _+_, _-_, _*_, _/_, _%_, _≤_}
-use mathlib.Core.Path.{_≡_, refl, sym, ap, _∙_}
+use mathlib.Core.Path.{_≡_, refl, sym, subst}
 use mathlib.Core.Bool.{Bool, true, false, cond}
 use mathlib.Core.List.{List}
 use native.Mathlib.Omega.{arith}
 use lib.Dec.{eqb, T}
 use Rattle.grammar.specs.declared.shape.Child.{Child}
-use Rattle.grammar.specs.Layouts.{Layout, inside}
+use Rattle.grammar.specs.Layouts.{Layout, inside, branch, portion}
 use Rattle.grammar.specs.Hcl.{under, fits}
 use Rattle.grammar.specs.Published.{wantOf}
 use Rattle.engine.specs.Layout.{kid}
@@ -24,7 +24,21 @@ module _ (left : ℕ) (lines : Bool) where
   child-inside : ChildAt 0 left lines (child (left - 1) true 0 0)
   child-inside = record { left = λ s w σ ks. refl; lines = λ s w σ ks. refl; bound = refl; kinds = λ s w σ ks. refl; item = λ z. absurd (omega arith); plain = λ n s w σ ks x. tt; fewer = omega arith }
 
-module _ {s t : List ℕ} {i v : ℕ} {D D′ : List ℕ} {j p w : ℕ} {r : Bool} where
+  child-branch : ChildAt 5 left lines (child (left - 1) lines 0 0)
+  child-branch = record { left = λ s w σ ks. refl; lines = λ s w σ ks. refl; bound = refl; kinds = λ s w σ ks. refl; item = λ z. absurd (omega arith); plain = λ n s w σ ks x. tt; fewer = omega arith }
+
+  child-portion : ChildAt 10 left lines (child left lines 8 2)
+  child-portion = record { left = λ s w σ ks. refl; lines = λ s w σ ks. refl; bound = refl; kinds = λ s w σ ks. refl; item = λ z. absurd (omega arith); plain = λ n s w σ ks x. tt; fewer = omega arith }
+
+module _ {s t : List ℕ} {i v : ℕ} {D D′ : List ℕ} {j p : ℕ} {r : Bool} where
   -- within brackets
-  pub seat-inside : 2 ≤ v → w ≡ v / 2 * 2 - 1 → KidBy t i D D′ j p 0 0 w r → StepBy s t i v D D′ (λ l. kid inside l) j p r
+  pub seat-inside : {w : ℕ} → 2 ≤ v → w ≡ v / 2 * 2 - 1 → KidBy t i D D′ j p 0 0 w r → StepBy s t i v D D′ (λ l. kid inside l) j p r
   seat-inside h e x = step-kid 0 (child-inside (v / 2) (eqb (v % 2) 1)) (λ z. omega (arith, z)) refl tt (omega (arith, h, e)) x
+
+  -- a part
+  pub seat-portion : KidBy t i D D′ j p 8 2 v r → StepBy s t i v D D′ (λ l. kid portion l) j p r
+  seat-portion x = step-kid 10 (child-portion (v / 2) (eqb (v % 2) 1)) (λ z. omega (arith, z)) refl tt (own-packed v) x
+
+  -- a part of a conditional
+  pub seat-branch : {w : ℕ} → 2 ≤ v → w ≡ v - 2 → (rowAt t i) .kind ≡ 21 → KidBy t i D D′ j p 0 0 w r → StepBy s t i v D D′ (λ l. kid branch l) j p r
+  seat-branch h e is x = step-kid 5 (child-branch (v / 2) (eqb (v % 2) 1)) (λ z. omega (arith, z)) refl (subst (λ (k : ℕ). T (fits (under 0 true (wantOf k)) branch)) (sym is) tt) (omega (arith, own-packed v, h, e)) x

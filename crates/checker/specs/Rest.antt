@@ -6,9 +6,9 @@ use mathlib.Core.Bool.{Bool, true, false}
 use lib.ListN.{length, getD}
 use lib.Dec.{eqb}
 use Rattle.engine.specs.Base.{Rec}
-use Rattle.grammar.specs.Moves.{Under}
+use Rattle.grammar.specs.Moves.{Under, gap, mark, here}
 use Rattle.engine.specs.Layout.{fin, move, kid, fork}
-use Rattle.grammar.specs.Layouts.{inside, Layout, opening, past, plain, space}
+use Rattle.grammar.specs.Layouts.{inside, branch, Layout, opening, past, plain, space, round}
 use Rattle.grammar.specs.Published.{depthOf}
 use Rattle.checker.specs.Rows.{rowAt, recAt}
 use Rattle.checker.specs.Family.{Chain}
@@ -50,3 +50,7 @@ enclosedLay a c = move (opening (a ∷ [])) (insideLay (move (past (c ∷ [])) (
 -- what stands behind the expression of an interpolation
 abbrev pub strippedLay : ℕ → Layout
 strippedLay φ = fork (past (126 ∷ [])) (move (plain (125 ∷ [])) (fin (φ + 2))) (move (past (125 ∷ [])) (fin φ))
+
+-- a mark, and a part of a conditional
+abbrev pub branchLay : ℕ → Layout → Layout
+branchLay c l = move (gap here ∷ mark (c ∷ []) [] ∷ []) (move round (kid branch l))

@@ -1,7 +1,9 @@
 // The layout of a kind: with no program, where there is code for it.
 use crate::bracket::enclosed;
 use crate::bracket::interpolation;
+use crate::conditional::conditional;
 use crate::lay::lay;
+use crate::traversal::traversal;
 use grammar::kinds::Kind;
 ghost use mathlib.Core.Path.{_≡_};
 ghost use Prim.Native.Nat.{_/_, _%_, _≤_};
@@ -36,6 +38,32 @@ pub fn layout(
     }
     if kind == Kind::PARENTHESES {
         return enclosed(s, table, i, marks, depths, j, p, own, 40, 41);
+    }
+    lay(s, table, i, marks, depths, j, p, left, lines)
+}
+
+// The same for a kind that grows from an operand, behind that.
+pub fn growth(
+    s: &[u8],
+    table: &[u16],
+    i: usize,
+    marks: &[u16],
+    depths: &mut [u8],
+    j: usize,
+    p: usize,
+    own: u8,
+    left: usize,
+    lines: bool,
+) -> bool
+    requires { ⌜ Direct (now table) i (now marks) (now depths) j × (left ≤ 127) × T (has laidOut ((rowAt (now table) i) .kind)) × ((rowAt (now table) i) .kind ≡ 12 → ⊥) × (i ≤ 65535) × (left ≡ own / 2) × (lines ≡ eqb (own % 2) 1) ⌝ }
+    ensures { λ r. ⌜ LaidBy (now (s .entry)) (now (table .entry)) i (now (marks .entry)) (now (depths .entry)) (now (depths .exit)) j p (own / 2) (eqb (own % 2) 1) r ⌝ }
+{
+    let kind = table[7 * i];
+    if kind == Kind::TRAVERSAL {
+        return traversal(s, table, i, marks, depths, j, p, own, lines);
+    }
+    if kind == Kind::CONDITIONAL {
+        return conditional(s, table, i, marks, depths, j, p, own, lines);
     }
     lay(s, table, i, marks, depths, j, p, left, lines)
 }

@@ -8,6 +8,7 @@ ghost use Rattle.checker.specs.Check.{Rooted, Ready, Walking, Checks};
 
 mod bare;
 mod bracket;
+mod conditional;
 mod direct;
 mod family;
 mod kinds;
@@ -25,6 +26,7 @@ mod rows;
 mod single;
 mod text;
 mod texts;
+mod traversal;
 
 // What is wanted where an expression stands.
 const EXPRESSION: u8 = 0;

@@ -8,6 +8,7 @@ use crate::kinds::first_at;
 use crate::kinds::hold;
 use crate::kinds::is_grown;
 use crate::lay::lay;
+use crate::layout::growth;
 use crate::layout::layout;
 use crate::object::object;
 use crate::precedence::groups;
@@ -202,7 +203,18 @@ fn grown(
     if x.end != end {
         return operator(s, table, i, marks, depths, next, x.end, own, lines);
     }
-    lay(s, table, i, marks, depths, next, end, levels(own), lines)
+    growth(
+        s,
+        table,
+        i,
+        marks,
+        depths,
+        next,
+        end,
+        own,
+        levels(own),
+        lines,
+    )
 }
 
 // A node that begins with its own bytes, or is told by its place, and holds no literal text.

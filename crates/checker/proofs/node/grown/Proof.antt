@@ -15,7 +15,6 @@ use Rattle.checker.proofs.node.grown.Statement.{statement}
 use Rattle.checker.proofs.node.grown.Tie as tie
 use Rattle.checker.proofs.node.grown.Reads as reads
 use Rattle.checker.proofs.node.grown.Lts as lts
-use Rattle.checker.proofs.lay.lay.Reads as lay-reads
 use Rattle.checker.proofs.node.left_at.Reads as left-at-reads
 use Rattle.checker.proofs.node.levels.Reads as levels-reads
 use Rattle.checker.proofs.node.multi_line.Reads as multi-line-reads
@@ -75,14 +74,14 @@ returns-3 c = let z = (chain-le _ _ (c .before .before .before .before .before .
 levels-requires : tie.Need-levels-requires
 levels-requires c κs = search needs
 
-lay-requires : tie.Need-lay-requires
-lay-requires c κs = let z = (chain-le _ _ (c .before .before .before .before .before .before .before .before .before .before .before .before .before .before .before .before .before .before .before .pre .1 .js) _ (c .before .before .before .before .before .before .before .before .before .before .before .before .before .before .before .before .before .before .before .pre .1 .chain)) in let y = next-of _ _ (c .before .before .before .before .before .before .before .before .before .before .before .before .before .before .before .before .before .before .before .pre .1 .js) _ (c .before .before .before .before .before .before .before .before .before .before .before .before .before .before .before .before .before .before .before .pre .1 .chain) (omega (arith, z, (c .before .before .before .before .before .before .before .before .before .before .before .before .if1 .left))) in (record { within = (c .before .before .before .before .before .before .before .before .before .before .before .before .before .before .before .before .before .before .before .pre .0 .within); marked = (c .before .before .before .before .before .before .before .before .before .before .before .before .before .before .before .before .before .before .before .pre .0 .marked); deep = omega (arith, length-set (c .before .before .before .before .before .before .before .before .before .before .before .before .before .before .before .before .before .before .before .args .depths .now) (c .before .before .before .before .before .before .before .before .before .before .before .before .before .before .before .before .before .before .before .args .first) (c .before .before .before .before .before .before .before .before .before .before .before .before .before .before .before .before .before .before .before .args .own), (c .before .before .before .before .before .before .before .before .before .before .before .before .before .before .before .before .before .before .before .pre .0 .deep)); js = y .rest; chain = subst (Chain _ _ (y .rest)) (sym (c .before .before .before .before .before .before .wide .ensures .0)) (y .chain) }, (c .levels .ensures .1), left-known (c .before .before .before .before .before .before .before .before .before .before .before .before .before .before .before .before .before .before .before .args .s .now) (c .before .before .before .before .before .before .before .before .before .before .before .before .before .before .before .before .before .before .before .args .table .now) (c .before .before .before .before .before .before .before .before .before .before .before .before .before .before .before .before .before .before .before .args .i) (c .before .before .before .before .before .before .before .before .before .before .before .before .before .before .before .before .before .before .before .args .own) [] [] [] (c .before .before .before .before .before .before .before .before .before .before .before .before .before .before .before .before .before .before .before .args .first) (c .before .before .before .before .before .before .before .before .before .before .before .before .before .before .before .before .before .before .before .pre .2) (c .before .before .before .before .before .before .before .before .before .before .before .before .if1 .left) z (not-false _ (c .before .before .before .before .before .before .before .before .if2 .left)) (left-as (c .before .before .before .before .before .before .before .before .before .before .before .multi-line .ensures) (c .before .before .before .before .before .before .before .before .before .before .left-at .ensures .left)), (λ e. clash (sym (c .before .before .before .before .before .before .before .before .before .before .before .before .before .before .before .before .before .before .before .pre .2) ∙ ap isGrown e)), (c .before .before .before .before .before .before .before .before .before .before .before .before .before .before .before .before .before .before .before .pre .0 .small))
+growth-requires : tie.Need-growth-requires
+growth-requires c κs = let z = (chain-le _ _ (c .before .before .before .before .before .before .before .before .before .before .before .before .before .before .before .before .before .before .before .pre .1 .js) _ (c .before .before .before .before .before .before .before .before .before .before .before .before .before .before .before .before .before .before .before .pre .1 .chain)) in let y = next-of _ _ (c .before .before .before .before .before .before .before .before .before .before .before .before .before .before .before .before .before .before .before .pre .1 .js) _ (c .before .before .before .before .before .before .before .before .before .before .before .before .before .before .before .before .before .before .before .pre .1 .chain) (omega (arith, z, (c .before .before .before .before .before .before .before .before .before .before .before .before .if1 .left))) in (record { within = (c .before .before .before .before .before .before .before .before .before .before .before .before .before .before .before .before .before .before .before .pre .0 .within); marked = (c .before .before .before .before .before .before .before .before .before .before .before .before .before .before .before .before .before .before .before .pre .0 .marked); deep = omega (arith, length-set (c .before .before .before .before .before .before .before .before .before .before .before .before .before .before .before .before .before .before .before .args .depths .now) (c .before .before .before .before .before .before .before .before .before .before .before .before .before .before .before .before .before .before .before .args .first) (c .before .before .before .before .before .before .before .before .before .before .before .before .before .before .before .before .before .before .before .args .own), (c .before .before .before .before .before .before .before .before .before .before .before .before .before .before .before .before .before .before .before .pre .0 .deep)); js = y .rest; chain = subst (Chain _ _ (y .rest)) (sym (c .before .before .before .before .before .before .wide .ensures .0)) (y .chain) }, (c .levels .ensures .1), left-known (c .before .before .before .before .before .before .before .before .before .before .before .before .before .before .before .before .before .before .before .args .s .now) (c .before .before .before .before .before .before .before .before .before .before .before .before .before .before .before .before .before .before .before .args .table .now) (c .before .before .before .before .before .before .before .before .before .before .before .before .before .before .before .before .before .before .before .args .i) (c .before .before .before .before .before .before .before .before .before .before .before .before .before .before .before .before .before .before .before .args .own) [] [] [] (c .before .before .before .before .before .before .before .before .before .before .before .before .before .before .before .before .before .before .before .args .first) (c .before .before .before .before .before .before .before .before .before .before .before .before .before .before .before .before .before .before .before .pre .2) (c .before .before .before .before .before .before .before .before .before .before .before .before .if1 .left) z (not-false _ (c .before .before .before .before .before .before .before .before .if2 .left)) (left-as (c .before .before .before .before .before .before .before .before .before .before .before .multi-line .ensures) (c .before .before .before .before .before .before .before .before .before .before .left-at .ensures .left)), (λ e. clash (sym (c .before .before .before .before .before .before .before .before .before .before .before .before .before .before .before .before .before .before .before .pre .2) ∙ ap isGrown e)), (c .before .before .before .before .before .before .before .before .before .before .before .before .before .before .before .before .before .before .before .pre .0 .small), (c .levels .ensures .0), (c .before .before .before .before .before .before .before .before .before .before .before .multi-line .ensures))
 
 same-length-2 : tie.Need-same-length-2
-same-length-2 c = omega (arith, ((c .before .before .lay .ensures .long)), length-set (((c .before .before .before .before .before .before .before .before .before .before .before .before .before .before .before .before .before .before .before .before .before .before .args .depths .now))) (((c .before .before .before .before .before .before .before .before .before .before .before .before .before .before .before .before .before .before .before .before .before .before .args .first))) (((c .before .before .before .before .before .before .before .before .before .before .before .before .before .before .before .before .before .before .before .before .before .before .args .own))))
+same-length-2 c = omega (arith, ((c .before .before .growth .ensures .long)), length-set (((c .before .before .before .before .before .before .before .before .before .before .before .before .before .before .before .before .before .before .before .before .before .before .args .depths .now))) (((c .before .before .before .before .before .before .before .before .before .before .before .before .before .before .before .before .before .before .before .before .before .before .args .first))) (((c .before .before .before .before .before .before .before .before .before .before .before .before .before .before .before .before .before .before .before .before .before .before .args .own))))
 
 returns-4 : tie.Need-returns-4
-returns-4 c = let z = (chain-le _ _ (((c .before .before .before .before .before .before .before .before .before .before .before .before .before .before .before .before .before .before .before .before .before .before .pre .1 .js))) _ (((c .before .before .before .before .before .before .before .before .before .before .before .before .before .before .before .before .before .before .before .before .before .before .pre .1 .chain)))) in let y = next-of _ _ (((c .before .before .before .before .before .before .before .before .before .before .before .before .before .before .before .before .before .before .before .before .before .before .pre .1 .js))) _ (((c .before .before .before .before .before .before .before .before .before .before .before .before .before .before .before .before .before .before .before .before .before .before .pre .1 .chain))) (omega (arith, z, ((c .before .before .before .before .before .before .before .before .before .before .before .before .before .before .before .if1 .left)))) in grown-by _ _ _ _ _ _ _ _ (((c .before .before .before .before .before .before .before .before .before .before .before .before .before .before .before .before .before .before .before .before .before .before .pre .2))) (((c .before .before .before .before .before .before .before .before .before .before .before .before .before .before .before .if1 .left))) z (not-false _ (((c .before .before .before .before .before .before .before .before .before .before .before .if2 .left)))) (left-as (((c .before .before .before .before .before .before .before .before .before .before .before .before .before .before .multi-line .ensures))) (((c .before .before .before .before .before .before .before .before .before .before .before .before .before .left-at .ensures .left)))) (omega (arith, z, ((c .before .before .before .before .before .before .before .before .before .before .before .before .before .before .before .before .before .before .before .before .before .before .pre .0 .deep)))) (y .up) (((c .before .before .before .before .before .before .before .before .before .wide .ensures .0))) (((c .before .before .before .before .before .before .before .wide2 .ensures .0))) (laid-as refl (((c .before .before .before .levels .ensures .0))) (((c .before .before .before .before .before .before .before .before .before .before .before .before .before .before .multi-line .ensures))) (((c .before .before .lay .ensures))))
+returns-4 c = let z = (chain-le _ _ (((c .before .before .before .before .before .before .before .before .before .before .before .before .before .before .before .before .before .before .before .before .before .before .pre .1 .js))) _ (((c .before .before .before .before .before .before .before .before .before .before .before .before .before .before .before .before .before .before .before .before .before .before .pre .1 .chain)))) in let y = next-of _ _ (((c .before .before .before .before .before .before .before .before .before .before .before .before .before .before .before .before .before .before .before .before .before .before .pre .1 .js))) _ (((c .before .before .before .before .before .before .before .before .before .before .before .before .before .before .before .before .before .before .before .before .before .before .pre .1 .chain))) (omega (arith, z, ((c .before .before .before .before .before .before .before .before .before .before .before .before .before .before .before .if1 .left)))) in grown-by _ _ _ _ _ _ _ _ (((c .before .before .before .before .before .before .before .before .before .before .before .before .before .before .before .before .before .before .before .before .before .before .pre .2))) (((c .before .before .before .before .before .before .before .before .before .before .before .before .before .before .before .if1 .left))) z (not-false _ (((c .before .before .before .before .before .before .before .before .before .before .before .if2 .left)))) (left-as (((c .before .before .before .before .before .before .before .before .before .before .before .before .before .before .multi-line .ensures))) (((c .before .before .before .before .before .before .before .before .before .before .before .before .before .left-at .ensures .left)))) (omega (arith, z, ((c .before .before .before .before .before .before .before .before .before .before .before .before .before .before .before .before .before .before .before .before .before .before .pre .0 .deep)))) (y .up) (((c .before .before .before .before .before .before .before .before .before .wide .ensures .0))) (((c .before .before .before .before .before .before .before .wide2 .ensures .0))) (c .before .before .growth .ensures)
 
 pub grown-spec : {M : Type 1} → statement M
 grown-spec =
@@ -105,6 +104,6 @@ grown-spec =
     same-length
     returns-3
     levels-requires
-    lay-requires
+    growth-requires
     same-length-2
     returns-4)
