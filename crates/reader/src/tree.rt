@@ -329,61 +329,45 @@ pub fn laid(
         if x.op == Instr::FIN {
             return close(nodes, i, n, kind, x.arg, start, q, before, t);
         }
-        if x.op == Instr::KID {
-            let m = sub(
-                s,
-                nodes,
-                text,
-                keys,
-                i + n,
-                u + t,
-                k,
-                q,
-                left,
-                lines,
-                x.class,
-            );
-            if m.kind != 0 {
-                return m;
+        let mut at = q;
+        let mut further = pc + 1;
+        if x.op != Instr::KID {
+            let w = walk(s, left, lines, x.arg, q);
+            if w.kind != 0 {
+                if x.op == Instr::MOVE {
+                    return refuse(w.kind, w.at);
+                }
+                pc = x.next;
+                continue;
             }
-            q = m.end;
-            n = n + m.count;
-            t = t + m.text;
-            pc = pc + 1;
-            continue;
-        }
-        let w = walk(s, left, lines, x.arg, q);
-        if w.kind != 0 {
-            if x.op == Instr::MOVE {
-                return refuse(w.kind, w.at);
+            if x.op != Instr::REP {
+                q = w.at;
+                pc = pc + 1;
+                continue;
             }
-            pc = x.next;
-            continue;
+            at = w.at;
+            further = pc;
         }
-        if x.op == Instr::REP {
-            let m = sub(
-                s,
-                nodes,
-                text,
-                keys,
-                i + n,
-                u + t,
-                k,
-                w.at,
-                left,
-                lines,
-                x.class,
-            );
-            if m.kind != 0 {
-                return m;
-            }
-            q = m.end;
-            n = n + m.count;
-            t = t + m.text;
-            continue;
+        let m = sub(
+            s,
+            nodes,
+            text,
+            keys,
+            i + n,
+            u + t,
+            k,
+            at,
+            left,
+            lines,
+            x.class,
+        );
+        if m.kind != 0 {
+            return m;
         }
-        q = w.at;
-        pc = pc + 1;
+        q = m.end;
+        n = n + m.count;
+        t = t + m.text;
+        pc = further;
     }
 }
 
