@@ -8,6 +8,7 @@ mod Exprs
 mod Unaries
 mod Terms
 mod Firsts
+mod Leads
 mod Subs
 mod Texts
 mod Pieces

@@ -12,9 +12,12 @@ use Rattle.engine.specs.Base.{Outcome, ok, halt, stuck, Rec, Tree, Trees, node,
 use Rattle.engine.specs.Engine.{Body, Fits, FailIn, FailAt}
 use Rattle.engine.specs.Layout.{Lay, grammar, after}
 use Rattle.engine.specs.Way.{Gives, Begins, Part, mid}
+use Rattle.lexis.specs.Bytes.{byteAt}
 use Rattle.lexis.specs.Heredoc.{openerAt}
 use Rattle.lexis.specs.String.{modeOf}
 use Rattle.lexis.specs.Keys.{among}
+use Rattle.grammar.specs.declared.picks.Head.{Head}
+use Rattle.grammar.specs.Alone.{HeadAt}
 use Rattle.grammar.specs.Moves.{Want, Under, anExpression, anItem, round}
 use Rattle.grammar.specs.Layouts.{Layout, layoutOf}
 use Rattle.grammar.specs.Hcl.{hcl, under, pickAt, bounds}
@@ -158,9 +161,16 @@ pub record Laying (start p before k : ℕ) : Type 0 where
   pub known : Programmed k
   pub room : start + before ≤ p
 
--- what stands first at p, and is no unary operator
+-- `r` is what stands first at p; of a quote it says only that one stands there, as it is not yet seen whether it is a string's or a template's
+pub record LeadAt (s : List ℕ) (p : ℕ) (lines : Bool) (r : Head) : Type 0 where
+  pub alone : (r .end ≡ p → ⊥) → HeadAt s p lines r
+  pub head : (r .kind ≡ 6 → ⊥) → HeadAt s p lines r
+  pub quote : r .kind ≡ 6 → byteAt s p ≡ 34
+
+-- what stands first at p, and is no unary operator; a quote by its byte, as above
 pub record Primary (s : List ℕ) (left : ℕ) (lines : Bool) (p k : ℕ) : Type 0 where
-  pub picked : pickAt s (under left lines anExpression) p ≡ some k
+  pub picked : (k ≡ 6 → ⊥) → pickAt s (under left lines anExpression) p ≡ some k
+  pub quote : (eqb k 6 || eqb k 7) ≡ true → byteAt s p ≡ 34
   pub binary : (eqb k 22 || eqb k 23) ≡ false
 
 -- a child of a class; a part leaves a byte over

@@ -10,6 +10,7 @@ use crate::put::accept;
 use crate::put::close;
 use crate::put::refuse;
 use crate::text::ends;
+use crate::text::lead_at;
 use crate::text::piece;
 use crate::text::string;
 use grammar::kinds::Kind;
@@ -19,7 +20,6 @@ use grammar::moves::space;
 use grammar::moves::unexpected;
 use grammar::moves::walk;
 use grammar::picks::follow;
-use grammar::picks::head_at;
 use grammar::picks::key_at;
 use grammar::picks::next_at;
 use grammar::picks::part_at;
@@ -43,11 +43,12 @@ ghost use Rattle.engine.specs.Base.{has};
 ghost use Rattle.index.specs.Mark.{markAt};
 ghost use Rattle.index.specs.Index.{Indexed};
 ghost use Rattle.grammar.specs.Said.{classes};
-ghost use Rattle.grammar.specs.Alone.{headOf, HeadAt, NextAt, keyOf, Word, KeyAt};
+ghost use Rattle.lexis.specs.Bytes.{byteAt};
+ghost use Rattle.grammar.specs.Alone.{headOf, NextAt, keyOf, Word, KeyAt};
 ghost use Rattle.grammar.specs.Moves.{anExpression};
 ghost use Rattle.grammar.specs.Layouts.{layoutOf, textLay};
 ghost use Rattle.grammar.specs.Hcl.{under, pickAt};
-ghost use Rattle.reader.specs.Said.{Asked, Said, Climbs, Firsts, Terms, Heads, Primary, Laying, SaidMade, SaidSub, SaidItem, Any, underAny, anyBefore, One, Texting};
+ghost use Rattle.reader.specs.Said.{Asked, Said, Climbs, Firsts, Terms, Heads, Primary, LeadAt, Laying, SaidMade, SaidSub, SaidItem, Any, underAny, anyBefore, One, Texting};
 
 // The classes that are no expressions, as the program numbers them.
 const CALLED: u8 = 9;
@@ -73,7 +74,7 @@ pub fn expr(
     requires { ⌜ Asked (now s) (now keys) i u k p × (j ≤ 7) ⌝ }
     ensures { λ r. ⌜ Said (Climbs (now (s .entry)) (under left lines anExpression) j p) (now (s .entry)) i u k p (now (nodes .entry)) (now (nodes .exit)) (now (text .entry)) (now (text .exit)) (now (keys .entry)) (now (keys .exit)) r ⌝ }
 {
-    let x = head_at(s, p, lines);
+    let x = lead_at(s, p, lines);
     let l = first(s, nodes, text, keys, i, u, k, p, left, lines, x.kind, x.end);
     if l.kind != 0 {
         return l;
@@ -126,7 +127,7 @@ pub fn first(
     kind: u16,
     end: usize,
 ) -> Step
-    requires { ⌜ Asked (now s) (now keys) i u k p × HeadAt (now s) p lines (headOf kind end) ⌝ }
+    requires { ⌜ Asked (now s) (now keys) i u k p × LeadAt (now s) p lines (headOf kind end) ⌝ }
     ensures { λ r. ⌜ Said (Firsts (now (s .entry)) (under left lines anExpression) p) (now (s .entry)) i u k p (now (nodes .entry)) (now (nodes .exit)) (now (text .entry)) (now (text .exit)) (now (keys .entry)) (now (keys .exit)) r ⌝ }
 {
     if end != p {
@@ -269,6 +270,13 @@ fn is_unary(kind: u16) -> bool
     kind == Kind::NEGATION || kind == Kind::NOT
 }
 
+// Whether a kind is that of a quote: a string or a template.
+fn is_quoted(kind: u16) -> bool
+    ensures { λ r. ⌜ r ≡ (eqb kind 6 || eqb kind 7) ⌝ }
+{
+    kind == Kind::STRING || kind == Kind::TEMPLATE
+}
+
 // What a term begins with, of a kind that is no unary operator.
 pub fn prim(
     s: &[u8],
@@ -286,10 +294,7 @@ pub fn prim(
     requires { ⌜ Asked (now s) (now keys) i u k p × Primary (now s) left lines p kind ⌝ }
     ensures { λ r. ⌜ Said (Heads (now (s .entry)) (under left lines anExpression) p) (now (s .entry)) i u k p (now (nodes .entry)) (now (nodes .exit)) (now (text .entry)) (now (text .exit)) (now (keys .entry)) (now (keys .exit)) r ⌝ }
 {
-    if kind == Kind::STRING {
-        return string(s, nodes, text, i, u, p);
-    }
-    if kind == Kind::TEMPLATE {
+    if is_quoted(kind) {
         return quoted(s, nodes, text, keys, i, u, k, p, left, lines);
     }
     if kind == Kind::HEREDOC {
@@ -481,7 +486,7 @@ pub fn interp(
     )
 }
 
-// A quoted template at p, with an interpolation in it.
+// A quote at p: a string, or a template where an interpolation ends its first run.
 pub fn quoted(
     s: &[u8],
     nodes: &mut [u16],
@@ -494,9 +499,14 @@ pub fn quoted(
     left: usize,
     lines: bool,
 ) -> Step
-    requires { ⌜ Asked (now s) (now keys) i u k p × (pickAt (now s) (under left lines anExpression) p ≡ some 7) ⌝ }
+    requires { ⌜ Asked (now s) (now keys) i u k p × (byteAt (now s) p ≡ 34) ⌝ }
     ensures { λ r. ⌜ Said (Heads (now (s .entry)) (under left lines anExpression) p) (now (s .entry)) i u k p (now (nodes .entry)) (now (nodes .exit)) (now (text .entry)) (now (text .exit)) (now (keys .entry)) (now (keys .exit)) r ⌝ }
 {
+    let r = run_at(s, p + 1, true, 0, 0);
+    let why = r.why;
+    let Why::Interpolation = why else {
+        return string(s, nodes, text, i, u, p, r);
+    };
     pieces(
         s,
         nodes,

@@ -1,12 +1,11 @@
 -- The needs of `prim`.
 use Prim.Native.Nat.{ℕ, _+_, _*_, _-_, _<_}
-use mathlib.Core.Path.{_≡_, subst}
+use mathlib.Core.Path.{_≡_, sym, subst, _∙_}
 use mathlib.Core.Option.{some}
 use native.Mathlib.Omega.{arith}
 use Rattle.grammar.specs.Moves.{anExpression}
 use Rattle.grammar.specs.Hcl.{under, pickAt}
-use Rattle.reader.proofs.Strings.{quoting}
-use Rattle.reader.proofs.Subs.{prim-term, prim-laid}
+use Rattle.reader.proofs.Subs.{prim-term, prim-laid, no-string, no-template}
 use borrow.Author.Needs.{needs}
 use Rattle.reader.proofs.tree.heredoc.Reads as heredoc
 use Rattle.reader.proofs.tree.laid.Reads as laid
@@ -14,62 +13,38 @@ use Rattle.reader.proofs.tree.object.Reads as object
 use Rattle.reader.proofs.tree.prim.Reads as prim
 use Rattle.reader.proofs.tree.+expr+first+grow+heredoc+interp+item+laid+named+object+pieces+prim+quoted+sub+term.Lts-prim as prim-lts
 use Rattle.reader.proofs.tree.quoted.Reads as quoted
-use Rattle.reader.proofs.text.string.Reads as string-reads
+use Rattle.reader.proofs.tree.is_quoted.Reads as is-quoted-reads
 use Rattle.reader.proofs.tree.+expr+first+grow+heredoc+interp+item+laid+named+object+pieces+prim+quoted+sub+term.Proof.Common.{prim-at, heredoc-below, laid-below, object-below, quoted-below}
 
 -- what `prim` calls, below the measure t
 abbrev calls : ℕ → prim-lts.Claims
-calls t = (string-reads.Asked, string-reads.Learnt, quoted-below t, quoted.Post, heredoc-below t, heredoc.Post, object-below t, object.Post, laid-below t, laid.Post)
+calls t = (is-quoted-reads.Asked, is-quoted-reads.Learnt, quoted-below t, quoted.Post, heredoc-below t, heredoc.Post, object-below t, object.Post, laid-below t, laid.Post)
 
 module _ (t : ℕ) where
-  -- src/tree.rt:138:9
-  string-requires : prim-lts.Need-string-requires (calls t) (prim-at t) prim.Post
-  string-requires c κs = quoting ((c .before .before .before .before .before .before .before .args .left)) ((c .before .before .before .before .before .before .before .args .lines)) ((c .before .before .before .before .before .before .before .pre .1 .0)) (subst (λ (n : ℕ). pickAt ((c .before .before .before .before .before .before .before .args .s .now)) (under ((c .before .before .before .before .before .before .before .args .left)) ((c .before .before .before .before .before .before .before .args .lines)) anExpression) ((c .before .before .before .before .before .before .before .args .p)) ≡ some n) (c .before .before .if1 .taken) ((c .before .before .before .before .before .before .before .pre .1 .1 .picked)))
-
-  -- src/tree.rt:138:9
-  same-length : prim-lts.Need-same-length (calls t) (prim-at t) prim.Post
-  same-length c = omega (arith, (c .before .before .before .before .string .kept .1 .0))
-
-  -- src/tree.rt:138:9
-  same-length-2 : prim-lts.Need-same-length-2 (calls t) (prim-at t) prim.Post
-  same-length-2 c = omega (arith, (c .before .before .before .before .string .kept .1 .1 .0))
-
-  -- src/tree.rt:138:9
-  returns : prim-lts.Need-returns (calls t) (prim-at t) prim.Post
-  returns c = (c .before .before .before .before .string .ensures .said) ((c .before .before .before .before .before .before .before .before .before .before .before .before .args .left)) ((c .before .before .before .before .before .before .before .before .before .before .before .before .args .lines)) (subst (λ (n : ℕ). pickAt ((c .before .before .before .before .before .before .before .before .before .before .before .before .args .s .now)) (under ((c .before .before .before .before .before .before .before .before .before .before .before .before .args .left)) ((c .before .before .before .before .before .before .before .before .before .before .before .before .args .lines)) anExpression) ((c .before .before .before .before .before .before .before .before .before .before .before .before .args .p)) ≡ some n) (c .before .before .before .before .before .before .before .if1 .taken) ((c .before .before .before .before .before .before .before .before .before .before .before .before .pre .1 .1 .picked))) ((c .before .before .before .before .before .before .before .before .before .before .before .before .args .k)) _
-
-  -- src/tree.rt:141:9
   quoted-requires : prim-lts.Need-quoted-requires (calls t) (prim-at t) prim.Post
-  quoted-requires c κs = (omega (arith, (c .before .before .before .before .before .before .before .before .before .pre .0)), ((c .before .before .before .before .before .before .before .before .before .pre .1 .0), (subst (λ (n : ℕ). pickAt ((c .before .before .before .before .before .before .before .before .before .args .s .now)) (under ((c .before .before .before .before .before .before .before .before .before .args .left)) ((c .before .before .before .before .before .before .before .before .before .args .lines)) anExpression) ((c .before .before .before .before .before .before .before .before .before .args .p)) ≡ some n) (c .before .before .before .if2 .taken) ((c .before .before .before .before .before .before .before .before .before .pre .1 .1 .picked)))))
+  quoted-requires c κs = (omega (arith, (c .before .before .before .before .before .before .before .before .before .pre .0)), ((c .before .before .before .before .before .before .before .before .before .pre .1 .0), (c .before .before .before .before .before .before .before .before .before .pre .1 .1 .quote) (sym (c .before .before .before .before .is-quoted .ensures) ∙ (c .before .before .before .if1 .taken))))
 
-  -- src/tree.rt:141:9
-  returns-2 : prim-lts.Need-returns-2 (calls t) (prim-at t) prim.Post
-  returns-2 c = (c .before .before .before .before .before .before .quoted .ensures)
+  returns : prim-lts.Need-returns (calls t) (prim-at t) prim.Post
+  returns c = (c .before .before .before .before .before .before .quoted .ensures)
 
-  -- src/tree.rt:144:9
   heredoc-requires : prim-lts.Need-heredoc-requires (calls t) (prim-at t) prim.Post
-  heredoc-requires c κs = (omega (arith, (c .before .before .before .before .before .before .before .before .before .before .pre .0)), ((c .before .before .before .before .before .before .before .before .before .before .pre .1 .0), (subst (λ (n : ℕ). pickAt ((c .before .before .before .before .before .before .before .before .before .before .args .s .now)) (under ((c .before .before .before .before .before .before .before .before .before .before .args .left)) ((c .before .before .before .before .before .before .before .before .before .before .args .lines)) anExpression) ((c .before .before .before .before .before .before .before .before .before .before .args .p)) ≡ some n) (c .before .before .before .if3 .taken) ((c .before .before .before .before .before .before .before .before .before .before .pre .1 .1 .picked)))))
+  heredoc-requires c κs = (omega (arith, (c .before .before .before .before .before .before .before .before .before .before .pre .0)), ((c .before .before .before .before .before .before .before .before .before .before .pre .1 .0), (subst (λ (n : ℕ). pickAt ((c .before .before .before .before .before .before .before .before .before .before .args .s .now)) (under ((c .before .before .before .before .before .before .before .before .before .before .args .left)) ((c .before .before .before .before .before .before .before .before .before .before .args .lines)) anExpression) ((c .before .before .before .before .before .before .before .before .before .before .args .p)) ≡ some n) (c .before .before .before .if2 .taken) ((c .before .before .before .before .before .before .before .before .before .before .pre .1 .1 .picked) (no-string (c .before .before .before .before .before .before .before .before .before .before .args .kind) (sym (c .before .before .before .before .before .is-quoted .ensures) ∙ (c .before .before .before .before .if1 .left)))))))
 
-  -- src/tree.rt:144:9
-  returns-3 : prim-lts.Need-returns-3 (calls t) (prim-at t) prim.Post
-  returns-3 c = (c .before .before .before .before .before .before .heredoc .ensures)
+  returns-2 : prim-lts.Need-returns-2 (calls t) (prim-at t) prim.Post
+  returns-2 c = (c .before .before .before .before .before .before .heredoc .ensures)
 
-  -- src/tree.rt:147:9
   object-requires : prim-lts.Need-object-requires (calls t) (prim-at t) prim.Post
-  object-requires c κs = (omega (arith, (c .before .before .before .before .before .before .before .before .before .before .before .pre .0)), ((c .before .before .before .before .before .before .before .before .before .before .before .pre .1 .0), (subst (λ (n : ℕ). pickAt ((c .before .before .before .before .before .before .before .before .before .before .before .args .s .now)) (under ((c .before .before .before .before .before .before .before .before .before .before .before .args .left)) ((c .before .before .before .before .before .before .before .before .before .before .before .args .lines)) anExpression) ((c .before .before .before .before .before .before .before .before .before .before .before .args .p)) ≡ some n) (c .before .before .before .if4 .taken) ((c .before .before .before .before .before .before .before .before .before .before .before .pre .1 .1 .picked)))))
+  object-requires c κs = (omega (arith, (c .before .before .before .before .before .before .before .before .before .before .before .pre .0)), ((c .before .before .before .before .before .before .before .before .before .before .before .pre .1 .0), (subst (λ (n : ℕ). pickAt ((c .before .before .before .before .before .before .before .before .before .before .before .args .s .now)) (under ((c .before .before .before .before .before .before .before .before .before .before .before .args .left)) ((c .before .before .before .before .before .before .before .before .before .before .before .args .lines)) anExpression) ((c .before .before .before .before .before .before .before .before .before .before .before .args .p)) ≡ some n) (c .before .before .before .if3 .taken) ((c .before .before .before .before .before .before .before .before .before .before .before .pre .1 .1 .picked) (no-string (c .before .before .before .before .before .before .before .before .before .before .before .args .kind) (sym (c .before .before .before .before .before .before .is-quoted .ensures) ∙ (c .before .before .before .before .before .if1 .left)))))))
 
-  -- src/tree.rt:147:9
-  returns-4 : prim-lts.Need-returns-4 (calls t) (prim-at t) prim.Post
-  returns-4 c = (c .before .before .before .before .before .before .object .ensures)
+  returns-3 : prim-lts.Need-returns-3 (calls t) (prim-at t) prim.Post
+  returns-3 c = (c .before .before .before .before .before .before .object .ensures)
 
-  -- src/tree.rt:149:5
   laid-requires : prim-lts.Need-laid-requires (calls t) (prim-at t) prim.Post
-  laid-requires c κs = (omega (arith, (c .before .before .before .before .before .before .before .before .before .before .before .pre .0)), ((c .before .before .before .before .before .before .before .before .before .before .before .pre .1 .0), record { known = prim-term ((c .before .before .before .before .before .before .before .before .before .before .before .args .s .now)) ((c .before .before .before .before .before .before .before .before .before .before .before .args .left)) ((c .before .before .before .before .before .before .before .before .before .before .before .args .lines)) ((c .before .before .before .before .before .before .before .before .before .before .before .args .p)) ((c .before .before .before .before .before .before .before .before .before .before .before .args .kind)) ((c .before .before .before .before .before .before .before .before .before .before .before .pre .1 .1)) (c .before .before .before .before .before .before .if1 .left) (c .before .before .before .before .before .if2 .left) (c .before .before .before .before .if3 .left) (c .before .before .before .if4 .left) .known; room = omega arith }))
+  laid-requires c κs = (omega (arith, (c .before .before .before .before .before .before .before .before .before .before .before .pre .0)), ((c .before .before .before .before .before .before .before .before .before .before .before .pre .1 .0), record { known = prim-term ((c .before .before .before .before .before .before .before .before .before .before .before .args .s .now)) ((c .before .before .before .before .before .before .before .before .before .before .before .args .left)) ((c .before .before .before .before .before .before .before .before .before .before .before .args .lines)) ((c .before .before .before .before .before .before .before .before .before .before .before .args .p)) ((c .before .before .before .before .before .before .before .before .before .before .before .args .kind)) ((c .before .before .before .before .before .before .before .before .before .before .before .pre .1 .1)) (no-string (c .before .before .before .before .before .before .before .before .before .before .before .args .kind) (sym (c .before .before .before .before .before .before .is-quoted .ensures) ∙ (c .before .before .before .before .before .if1 .left))) (no-template (c .before .before .before .before .before .before .before .before .before .before .before .args .kind) (sym (c .before .before .before .before .before .before .is-quoted .ensures) ∙ (c .before .before .before .before .before .if1 .left))) (c .before .before .before .before .if2 .left) (c .before .before .before .if3 .left) .known; room = omega arith }))
 
-  -- src/tree.rt:133:1
-  returns-5 : prim-lts.Need-returns-5 (calls t) (prim-at t) prim.Post
-  returns-5 c = prim-laid ((c .before .before .before .before .before .before .before .before .before .before .before .before .before .before .before .before .before .before .args .s .now)) ((c .before .before .before .before .before .before .before .before .before .before .before .before .before .before .before .before .before .before .args .left)) ((c .before .before .before .before .before .before .before .before .before .before .before .before .before .before .before .before .before .before .args .lines)) ((c .before .before .before .before .before .before .before .before .before .before .before .before .before .before .before .before .before .before .args .p)) ((c .before .before .before .before .before .before .before .before .before .before .before .before .before .before .before .before .before .before .args .kind)) ((c .before .before .before .before .before .before .before .before .before .before .before .before .before .before .before .before .before .before .pre .1 .1)) (c .before .before .before .before .before .before .before .before .before .before .before .before .before .if1 .left) (c .before .before .before .before .before .before .before .before .before .before .before .before .if2 .left) (c .before .before .before .before .before .before .before .before .before .before .before .if3 .left) (c .before .before .before .before .before .before .before .before .before .before .if4 .left) (c .before .before .before .before .before .before .laid .ensures)
+  returns-4 : prim-lts.Need-returns-4 (calls t) (prim-at t) prim.Post
+  returns-4 c = prim-laid ((c .before .before .before .before .before .before .before .before .before .before .before .before .before .before .before .before .before .before .args .s .now)) ((c .before .before .before .before .before .before .before .before .before .before .before .before .before .before .before .before .before .before .args .left)) ((c .before .before .before .before .before .before .before .before .before .before .before .before .before .before .before .before .before .before .args .lines)) ((c .before .before .before .before .before .before .before .before .before .before .before .before .before .before .before .before .before .before .args .p)) ((c .before .before .before .before .before .before .before .before .before .before .before .before .before .before .before .before .before .before .args .kind)) ((c .before .before .before .before .before .before .before .before .before .before .before .before .before .before .before .before .before .before .pre .1 .1)) (no-string (c .before .before .before .before .before .before .before .before .before .before .before .before .before .before .before .before .before .before .args .kind) (sym (c .before .before .before .before .before .before .before .before .before .before .before .before .before .is-quoted .ensures) ∙ (c .before .before .before .before .before .before .before .before .before .before .before .before .if1 .left))) (no-template (c .before .before .before .before .before .before .before .before .before .before .before .before .before .before .before .before .before .before .args .kind) (sym (c .before .before .before .before .before .before .before .before .before .before .before .before .before .is-quoted .ensures) ∙ (c .before .before .before .before .before .before .before .before .before .before .before .before .if1 .left))) (c .before .before .before .before .before .before .before .before .before .before .before .if2 .left) (c .before .before .before .before .before .before .before .before .before .before .if3 .left) (c .before .before .before .before .before .before .laid .ensures)
 
   pub met : {M : Type 1} → prim-lts.Closed (calls t) (prim-at t) prim.Post M
   met = prim-lts.spec (calls t) (prim-at t) prim.Post
-      string-requires same-length same-length-2 returns quoted-requires (λ c. search needs) (λ c. search needs) (λ c. search needs) returns-2 heredoc-requires (λ c. search needs) (λ c. search needs) (λ c. search needs) returns-3 object-requires (λ c. search needs) (λ c. search needs) (λ c. search needs) returns-4 laid-requires (λ c. search needs) (λ c. search needs) (λ c. search needs) returns-5
+      (λ c κs. search needs) quoted-requires (λ c. search needs) (λ c. search needs) (λ c. search needs) returns heredoc-requires (λ c. search needs) (λ c. search needs) (λ c. search needs) returns-2 object-requires (λ c. search needs) (λ c. search needs) (λ c. search needs) returns-3 laid-requires (λ c. search needs) (λ c. search needs) (λ c. search needs) returns-4
