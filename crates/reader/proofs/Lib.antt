@@ -5,6 +5,11 @@ mod Laids
 mod Ranks
 mod Laidings
 mod Exprs
+mod Ons
+mod Names
+mod Parts
+mod Withins
+mod Interps
 mod Unaries
 mod Terms
 mod Firsts
