@@ -46,7 +46,7 @@ term-first s a p stuck h = h
 pub first-term : {s : List ℕ} {a : Under} {i u k p : ℕ} {b b′ x x′ y y′ : List ℕ} {r : Step} → Said (Terms s a p) s i u k p b b′ x x′ y y′ r → Said (Firsts s a p) s i u k p b b′ x x′ y y′ r
 first-term {s} {a} {p = p} w = said-as (term-first s a p) w
 
-head-first : (s : List ℕ) (a : Under) (k p : ℕ) → pickAt s a p ≡ some k → tightOf k ≡ 9 → (o : Outcome ℕ (Tree ℕ)) → Heads s a p o → Firsts s a p o
+pub head-first : (s : List ℕ) (a : Under) (k p : ℕ) → pickAt s a p ≡ some k → tightOf k ≡ 9 → (o : Outcome ℕ (Tree ℕ)) → Heads s a p o → Firsts s a p o
 head-first s a k p q tight (ok t) h = λ j low. part-led (hcl s) (fits-all s a k p j q (omega arith)) h
 head-first s a k p q tight (halt x z) h = λ j low. part-led-no (hcl s) (fits-all s a k p j q (omega arith)) h
 head-first s a k p q tight stuck h = h

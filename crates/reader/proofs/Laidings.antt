@@ -49,6 +49,13 @@ pub pass-made : {Y : Outcome ℕ (Tree ℕ) → Type 0} {X : Type 0} {s : List �
 pass-made {Y} {X} {s} {a} {σ} {ks} {k} {l} {p} {i} {u} {before} {from} {K} {i′} {u′} {K′} {q} {b} {b′} {x} {x′} {y} {y′} {c} {c′} {v} {v′} {r = r} w z low kept h =
     refused-as Y X s a σ ks k l p i u before from K i′ u′ b b′ x x′ y y′ c c′ v v′ r (w .out) (w .gives) (w .told) z (omega (arith, w .room)) (omega (arith, w .spent)) (w .high) kept h
 
+-- a move from q to a
+pub record Past (s : List ℕ) (left : ℕ) (lines : Bool) (arg q a : ℕ) : Type 0 where
+  pub went : Went
+  pub walked : Walked s left lines arg q went
+  pub good : went .kind ≡ 0
+  pub there : a ≡ went .at
+
 module _ {s : List ℕ} {left : ℕ} {lines : Bool} {σ k p i u : ℕ} {b b′ x x′ : List ℕ} {pc q n t : ℕ} (w : Turn s left lines σ k p i u b b′ x x′ pc q n t) {r : Instr} (at : Instructed pc r) where
   is-op : (m : ℕ) → r .op ≡ m → operation (code pc) ≡ m
   is-op m e = sym (at .op) ∙ e
@@ -84,16 +91,13 @@ module _ {s : List ℕ} {left : ℕ} {lines : Bool} {σ k p i u : ℕ} {b b′ x
     child : SaidSub (class (code pc)) left lines s (i + n) (u + t) K q b′ b″ x′ x″ y′ y″ z
     child = sub-class (λ (o : ℕ). SaidSub o left lines s (i + n) (u + t) K q b′ b″ x′ x″ y′ y″ z) h
 
-    pub laid-kid-no : {before : ℕ} {y : List ℕ} → r .op ≡ 3 → ¬ (z .kind ≡ 0) → Kept K y y″ → {c c′ : List ℕ} → SaidMade Any s (underAny k left lines) σ anyBefore k (layoutOf k) p i u before p K b c x c′ y y″ z
+    laid-kid-no : {before : ℕ} {y : List ℕ} → r .op ≡ 3 → ¬ (z .kind ≡ 0) → Kept K y y″ → {c c′ : List ℕ} → SaidMade Any s (underAny k left lines) σ anyBefore k (layoutOf k) p i u before p K b c x c′ y y″ z
     laid-kid-no e f kept = pass-made (child .said) f (omega (arith, w .low)) kept (λ a o g. turn-kid-no w a o (is-op 3 e) g)
 
-    pub laid-kid : r .op ≡ 3 → z .kind ≡ 0 → Turn s left lines σ k p i u b b″ x x″ (pc + 1) (z .end) (n + z .count) (t + z .text)
+    laid-kid : r .op ≡ 3 → z .kind ≡ 0 → Turn s left lines σ k p i u b b″ x x″ (pc + 1) (z .end) (n + z .count) (t + z .text)
     laid-kid e f = let g = good (child .said) f in turn-kid w (is-op 3 e) g (child .over f) (good-pos g)
 
-    pub laid-far : z .kind ≡ 0 → q < z .end
-    laid-far f = omega (arith, child .said .room, good-pos (good (child .said) f))
-
-  pub laid-lead : r .op ≡ 3 → (p < q) ⊎ (subRank (r .class) < 2 * (43 - k))
+  laid-lead : r .op ≡ 3 → (p < q) ⊎ (subRank (r .class) < 2 * (43 - k))
   laid-lead e = go (turn-lead w (is-op 3 e) .0)
     where
       go : (p < q) ⊎ T (leads k (sort pc)) → (p < q) ⊎ (subRank (r .class) < 2 * (43 - k))
@@ -130,21 +134,63 @@ module _ {s : List ℕ} {left : ℕ} {lines : Bool} {σ k p i u : ℕ} {b b′ x
     pub laid-on : ¬ (r .op ≡ 1) → ¬ (r .op ≡ 3) → ¬ (r .op ≡ 5) → v .kind ≡ 0 → Turn s left lines σ k p i u b b′ x x′ (pc + 1) (v .at) n t
     laid-on e₁ e₃ e₅ f = turn-on w (v .at) (not-op 1 e₁) (not-op 3 e₃) (not-op 5 e₅) (λ ξ. moved .good f σ (wantIn k (ξ .0))) (moved .ate f) inside
 
-    pub laid-again : r .op ≡ 5 → v .kind ≡ 0 → p < v .at
+    laid-again : r .op ≡ 5 → v .kind ≡ 0 → p < v .at
     laid-again e f = turn-again w (v .at) (is-op 5 e) (moved .ate f) .0
 
     module _ {K : ℕ} {z : Step} {b″ x″ y′ y″ : List ℕ} (h : SaidSub (r .class) left lines s (i + n) (u + t) K (v .at) b′ b″ x′ x″ y′ y″ z) where
       further : SaidSub (class (code pc)) left lines s (i + n) (u + t) K (v .at) b′ b″ x′ x″ y′ y″ z
       further = sub-class (λ (o : ℕ). SaidSub o left lines s (i + n) (u + t) K (v .at) b′ b″ x′ x″ y′ y″ z) h
 
-      pub laid-rep-no : {before : ℕ} {y : List ℕ} → r .op ≡ 5 → v .kind ≡ 0 → ¬ (z .kind ≡ 0) → Kept K y y″ → {c c′ : List ℕ} → SaidMade Any s (underAny k left lines) σ anyBefore k (layoutOf k) p i u before p K b c x c′ y y″ z
+      laid-rep-no : {before : ℕ} {y : List ℕ} → r .op ≡ 5 → v .kind ≡ 0 → ¬ (z .kind ≡ 0) → Kept K y y″ → {c c′ : List ℕ} → SaidMade Any s (underAny k left lines) σ anyBefore k (layoutOf k) p i u before p K b c x c′ y y″ z
       laid-rep-no e g f kept = pass-made (further .said) f (omega (arith, m .low, w .low)) kept (λ a o d. turn-rep-no w (v .at) a o (is-op 5 e) (λ ξ. moved .good g σ (wantIn k (ξ .0))) d)
 
-      pub laid-rep : r .op ≡ 5 → v .kind ≡ 0 → z .kind ≡ 0 → Turn s left lines σ k p i u b b″ x x″ pc (z .end) (n + z .count) (t + z .text)
+      laid-rep : r .op ≡ 5 → v .kind ≡ 0 → z .kind ≡ 0 → Turn s left lines σ k p i u b b″ x x″ pc (z .end) (n + z .count) (t + z .text)
       laid-rep e g f = let d = good (further .said) f in turn-rep w (is-op 5 e) (λ ξ. moved .good g σ (wantIn k (ξ .0))) (m .low) d (good-pos d)
-
-      pub laid-rep-far : z .kind ≡ 0 → v .at < z .end
-      laid-rep-far f = omega (arith, further .said .room, good-pos (good (further .said) f))
 
   pub laid-within : pc < instructions
   laid-within = turn-within w
+
+  -- ---- the child of an instruction: at a, with the program going on at o behind it
+
+  -- at once, or past a move
+  abbrev pub Aim : ℕ → ℕ → Type 0
+  Aim a o = ((r .op ≡ 3) × (a ≡ q) × (o ≡ pc + 1)) ⊎ ((r .op ≡ 5) × Past s left lines (r .arg) q a × (o ≡ pc))
+
+  pub aim-kid : {a o : ℕ} → r .op ≡ 3 → a ≡ q → o ≡ pc + 1 → Aim a o
+  aim-kid e f g = inl (e, f, g)
+
+  pub aim-past : {a o : ℕ} {v : Went} → r .op ≡ 5 → Walked s left lines (r .arg) q v → v .kind ≡ 0 → a ≡ v .at → o ≡ pc → Aim a o
+  aim-past {v = v} e m g f h = inr (e, record { went = v; walked = m; good = g; there = f }, h)
+
+  pub aim-low : {a o : ℕ} → Aim a o → q ≤ a
+  aim-low (inl (e, f, g)) = omega (arith, f)
+  aim-low (inr (e, m, g)) = omega (arith, m .walked .low, m .there)
+
+  pub aim-high : {a o : ℕ} → Aim a o → a ≤ length s
+  aim-high (inl (e, f, g)) = omega (arith, f, w .high)
+  aim-high (inr (e, m, g)) = omega (arith, inside (m .walked), m .there)
+
+  pub aim-lead : {a o : ℕ} → Aim a o → (p < a) ⊎ (subRank (r .class) < 2 * (43 - k))
+  aim-lead (inl (e, f, g)) = subst (λ (b : ℕ). (p < b) ⊎ (subRank (r .class) < 2 * (43 - k))) (sym f) (laid-lead e)
+  aim-lead (inr (e, m, g)) = inl (subst (λ (b : ℕ). p < b) (sym (m .there)) (laid-again (m .walked) e (m .good)))
+
+  module _ {a o : ℕ} (g : Aim a o) {K : ℕ} {z : Step} {b″ x″ y′ y″ : List ℕ} (h : SaidSub (r .class) left lines s (i + n) (u + t) K a b′ b″ x′ x″ y′ y″ z) where
+    from : (c : ℕ) → a ≡ c → SaidSub (r .class) left lines s (i + n) (u + t) K c b′ b″ x′ x″ y′ y″ z
+    from c e = subst (λ (d : ℕ). SaidSub (r .class) left lines s (i + n) (u + t) K d b′ b″ x′ x″ y′ y″ z) e h
+
+    pub aim-no : {before : ℕ} {y : List ℕ} → ¬ (z .kind ≡ 0) → Kept K y y″ → {c c′ : List ℕ} → SaidMade Any s (underAny k left lines) σ anyBefore k (layoutOf k) p i u before p K b c x c′ y y″ z
+    aim-no {before} {y} f kept {c} {c′} = go g
+      where
+        go : Aim a o → SaidMade Any s (underAny k left lines) σ anyBefore k (layoutOf k) p i u before p K b c x c′ y y″ z
+        go (inl (e, d, _)) = laid-kid-no (from q d) e f kept
+        go (inr (e, m, _)) = laid-rep-no (m .walked) (from (m .went .at) (m .there)) e (m .good) f kept
+
+    pub aim-yes : z .kind ≡ 0 → Turn s left lines σ k p i u b b″ x x″ o (z .end) (n + z .count) (t + z .text)
+    aim-yes f = go g
+      where
+        go : Aim a o → Turn s left lines σ k p i u b b″ x x″ o (z .end) (n + z .count) (t + z .text)
+        go (inl (e, d, j)) = subst (λ (l : ℕ). Turn s left lines σ k p i u b b″ x x″ l (z .end) (n + z .count) (t + z .text)) (sym j) (laid-kid (from q d) e f)
+        go (inr (e, m, j)) = subst (λ (l : ℕ). Turn s left lines σ k p i u b b″ x x″ l (z .end) (n + z .count) (t + z .text)) (sym j) (laid-rep (m .walked) (from (m .went .at) (m .there)) e (m .good) f)
+
+    pub aim-far : z .kind ≡ 0 → q < z .end
+    aim-far f = omega (arith, aim-low g, h .said .room, good-pos (good (h .said) f))

@@ -73,7 +73,7 @@ step pc = moveAt (argument (code pc))
 abbrev pub sort : ℕ → Class
 sort pc = classOf (class (code pc))
 
-abbrev On : List ℕ → ℕ → Bool → ℕ → ℕ → ℕ → ℕ → ℕ → List ℕ → List ℕ → List ℕ → List ℕ → Layout → ℕ → ℕ → ℕ → ℕ → Type 0
+abbrev pub On : List ℕ → ℕ → Bool → ℕ → ℕ → ℕ → ℕ → ℕ → List ℕ → List ℕ → List ℕ → List ℕ → Layout → ℕ → ℕ → ℕ → ℕ → Type 0
 On s left lines σ k p i u b b′ x x′ l q n t w =
     Stage Any s (λ ξ. mid (hcl s) (underAny k left lines ξ) σ (anyBefore ξ) k (layoutOf k) p) (underAny k left lines) σ k p i u b b′ x x′ l q n t w
 

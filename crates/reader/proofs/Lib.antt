@@ -5,9 +5,15 @@ mod Laids
 mod Ranks
 mod Laidings
 mod Exprs
+mod Ons
+mod Names
+mod Parts
+mod Withins
+mod Interps
 mod Unaries
 mod Terms
 mod Firsts
+mod Leads
 mod Subs
 mod Texts
 mod Pieces

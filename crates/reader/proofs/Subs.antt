@@ -126,10 +126,19 @@ module _ (c left : ℕ) (lines : Bool) (n9 : ¬ (c ≡ 9)) (n10 : ¬ (c ≡ 10))
 
 module _ (s : List ℕ) (left : ℕ) (lines : Bool) (p k : ℕ) (w : Primary s left lines p k) (n6 : ¬ (k ≡ 6)) (n7 : ¬ (k ≡ 7)) (n8 : ¬ (k ≡ 8)) (n12 : ¬ (k ≡ 12)) where
   pub prim-term : Term k
-  prim-term = term-of k (picked-term s p left lines k (w .picked)) n6 n7 n8 n12 (λ e. clash (sym (ap (λ (n : ℕ). eqb n 22 || eqb n 23) e) ∙ w .binary)) (λ e. clash (sym (ap (λ (n : ℕ). eqb n 22 || eqb n 23) e) ∙ w .binary))
+  prim-term = term-of k (picked-term s p left lines k (w .picked n6)) n6 n7 n8 n12 (λ e. clash (sym (ap (λ (n : ℕ). eqb n 22 || eqb n 23) e) ∙ w .binary)) (λ e. clash (sym (ap (λ (n : ℕ). eqb n 22 || eqb n 23) e) ∙ w .binary))
 
   pub prim-laid : {i u K : ℕ} {b b′ x x′ y y′ : List ℕ} {r : Step} → SaidMade Any s (underAny k left lines) p anyBefore k (layoutOf k) p i u 0 p K b b′ x x′ y y′ r
       → Said (Heads s (under left lines anExpression) p) s i u K p b b′ x x′ y y′ r
   prim-laid {i} {u} {K} {b} {b′} {x} {x′} {y} {y′} {r} m =
       subst (λ (v : Want). Said (Heads s (under left lines v) p) s i u K p b b′ x x′ y y′ r) (prim-term .want)
-      (made-head m (ne-eqb k 6 n6) (ne-eqb k 9 (prim-term .nine)) (subst (λ (v : Want). pickAt s (under left lines v) p ≡ some k) (sym (prim-term .want)) (w .picked)))
+      (made-head m (ne-eqb k 6 n6) (ne-eqb k 9 (prim-term .nine)) (subst (λ (v : Want). pickAt s (under left lines v) p ≡ some k) (sym (prim-term .want)) (w .picked n6)))
+
+-- ---- a kind of no quote
+
+module _ (k : ℕ) (h : (eqb k 6 || eqb k 7) ≡ false) where
+  pub no-string : ¬ (k ≡ 6)
+  no-string e = clash (sym (ap (λ (n : ℕ). eqb n 6 || eqb n 7) e) ∙ h)
+
+  pub no-template : ¬ (k ≡ 7)
+  no-template e = clash (sym (ap (λ (n : ℕ). eqb n 6 || eqb n 7) e) ∙ h)

@@ -7,18 +7,29 @@ use mathlib.Core.List.{List, []}
 use native.Mathlib.Omega.{arith}
 use lib.ListN.{length}
 use lib.Dec.{eqb, eqb→eq}
+use borrow.Author.Tests.{eqb-true}
 use Rattle.reader.specs.declared.Step.{Step}
+use Rattle.lexis.specs.Bytes.{byteAt}
 use Rattle.grammar.specs.declared.moves.Went.{Went}
 use Rattle.grammar.specs.Kinds.{tightOf, Deep}
 use Rattle.grammar.specs.Moves.{anExpression}
 use Rattle.grammar.specs.Hcl.{pickAt, under}
 use Rattle.grammar.specs.Table.{recordOf}
 use Rattle.grammar.specs.Said.{TermAt, Moved, kindOf}
+use Rattle.grammar.specs.TextLaws.{pick-string, pick-template}
 use Rattle.grammar.specs.PickLaws.{listed, kind-some, picked-term, termed}
 use Rattle.reader.specs.Buffer.{putAt}
 use Rattle.reader.specs.Said.{stepOf, Terms, Kept, Said, Primary}
 use Rattle.reader.proofs.Answers.{good, refused, pass}
 use Rattle.reader.proofs.Unaries.{Unary, unary, unary-inside, unary-deep, unary-space, unary-high, unary-no, unary-room, unary-ok}
+
+-- a string or a template stands behind a quote
+pub quote-by : (s : List ℕ) (left : ℕ) (lines : Bool) (p k : ℕ) → pickAt s (under left lines anExpression) p ≡ some k → (eqb k 6 || eqb k 7) ≡ true → byteAt s p ≡ 34
+quote-by s left lines p k q = go (eqb k 6) refl
+  where
+    go : (t : Bool) → eqb k 6 ≡ t → (t || eqb k 7) ≡ true → byteAt s p ≡ 34
+    go true e h = pick-string s left lines p (q ∙ ap some (eqb-true k 6 e))
+    go false e h = pick-template s left lines p (q ∙ ap some (eqb-true k 7 h))
 
 -- ---- the kind of a term
 
@@ -30,7 +41,7 @@ module _ (s : List ℕ) (lines : Bool) (p k : ℕ) (at : TermAt s p lines k) (so
   term-firm = eqb→eq (tightOf k) 9 (listed (λ n. eqb (tightOf n) 9) termed tt k (picked-term s p 0 lines k (term-picked 0)))
 
   pub term-primary : (left : ℕ) → (eqb k 22 || eqb k 23) ≡ false → Primary s left lines p k
-  term-primary left h = record { picked = term-picked left; binary = h }
+  term-primary left h = record { picked = λ _. term-picked left; quote = quote-by s left lines p k (term-picked left); binary = h }
 
   -- ---- a unary operator
 

@@ -1,5 +1,6 @@
 pub mod Buffer
 pub mod Said
+pub mod Bare
 pub mod Text
 pub mod Items
 pub mod Read

@@ -10,13 +10,16 @@ use lib.Dec.{eqb}
 use Rattle.reader.specs.declared.Step.{Step}
 use Rattle.engine.specs.Base.{Outcome, ok, halt, stuck, Rec, Tree, Trees, node, recOf, size, sizes}
 use Rattle.engine.specs.Engine.{Body, Fits, FailIn, FailAt}
-use Rattle.engine.specs.Layout.{Lay, grammar, after}
+use Rattle.engine.specs.Layout.{Lay, fin, move, kid, grammar, after}
 use Rattle.engine.specs.Way.{Gives, Begins, Part, mid}
+use Rattle.lexis.specs.Bytes.{byteAt, stands}
 use Rattle.lexis.specs.Heredoc.{openerAt}
 use Rattle.lexis.specs.String.{modeOf}
 use Rattle.lexis.specs.Keys.{among}
+use Rattle.grammar.specs.declared.picks.Head.{Head}
+use Rattle.grammar.specs.Alone.{HeadAt}
 use Rattle.grammar.specs.Moves.{Want, Under, anExpression, anItem, round}
-use Rattle.grammar.specs.Layouts.{Layout, layoutOf}
+use Rattle.grammar.specs.Layouts.{Layout, layoutOf, inside, opening, space, past}
 use Rattle.grammar.specs.Hcl.{hcl, under, pickAt, bounds}
 use Rattle.grammar.specs.Code.{classOf}
 use Rattle.grammar.specs.Thrift.{spare, bonus}
@@ -158,10 +161,24 @@ pub record Laying (start p before k : ℕ) : Type 0 where
   pub known : Programmed k
   pub room : start + before ≤ p
 
--- what stands first at p, and is no unary operator
+-- `r` is what stands first at p; of a quote it says only that one stands there, as it is not yet seen whether it is a string's or a template's
+pub record LeadAt (s : List ℕ) (p : ℕ) (lines : Bool) (r : Head) : Type 0 where
+  pub alone : (r .end ≡ p → ⊥) → HeadAt s p lines r
+  pub head : (r .kind ≡ 6 → ⊥) → HeadAt s p lines r
+  pub quote : r .kind ≡ 6 → byteAt s p ≡ 34
+
+-- what stands first at p, and is no unary operator; a quote by its byte, as above
 pub record Primary (s : List ℕ) (left : ℕ) (lines : Bool) (p k : ℕ) : Type 0 where
-  pub picked : pickAt s (under left lines anExpression) p ≡ some k
+  pub picked : (k ≡ 6 → ⊥) → pickAt s (under left lines anExpression) p ≡ some k
+  pub quote : (eqb k 6 || eqb k 7) ≡ true → byteAt s p ≡ 34
   pub binary : (eqb k 22 || eqb k 23) ≡ false
+
+-- an expression in brackets, of the kind k: its opener stands at p, and c closes it
+pub record Bracketed (s : List ℕ) (p k c : ℕ) : Type 0 where
+  pub opener : ℕ
+  pub stands : stands (opener ∷ []) s p ≡ true
+  pub there : p < length s
+  pub lays : layoutOf k ≡ move (opening (opener ∷ [])) (move space (kid inside (move (past (c ∷ [])) (fin 0))))
 
 -- a child of a class; a part leaves a byte over
 pub record SaidSub (c left : ℕ) (lines : Bool) (s : List ℕ) (i u k p : ℕ) (b b′ x x′ y y′ : List ℕ) (r : Step) : Type 0 where

@@ -10,6 +10,7 @@ ghost use lib.ListN.{length};
 ghost use Rattle.grammar.specs.Answer.{answer};
 ghost use Rattle.reader.specs.Read.{Clean, Fitting, Reads, answerFrom};
 
+mod bare;
 mod copy;
 mod items;
 pub mod node;

@@ -5,17 +5,22 @@ use crate::put::put;
 use crate::put::refuse;
 use grammar::kinds::Kind;
 use grammar::kinds::Refusal;
+use grammar::picks::Head;
+use grammar::picks::head_at;
+use lexis::bytes::byte_at;
 use lexis::heredoc::Line;
 use lexis::heredoc::line_at;
+use lexis::string::Run;
 use lexis::string::Why;
-use lexis::string::run_at;
 use lexis::string::write;
 ghost use mathlib.Core.Path.{_≡_};
-ghost use Prim.Native.Nat.{_≤_};
+ghost use Prim.Native.Nat.{_+_, _≤_};
 ghost use Rattle.lexis.specs.Heredoc.{lineAt, part};
+ghost use Rattle.lexis.specs.String.{quoted, RunHere};
 ghost use Rattle.grammar.specs.Moves.{closesAs};
 ghost use Rattle.grammar.specs.Table.{recordOf};
 ghost use Rattle.reader.specs.Buffer.{putAt};
+ghost use Rattle.reader.specs.Said.{LeadAt};
 ghost use Rattle.reader.specs.Text.{stepFrom, Ends, Piecing, Pieced, Quoting, SaidString};
 
 // How the line at q closes a heredoc whose delimiter stands in the source from d to e.
@@ -99,13 +104,33 @@ pub fn piece(
     0
 }
 
-// A string at p: the run between its quotes, its record and, where it is escaped, its text.
-pub fn string(s: &[u8], nodes: &mut [u16], text: &mut [u8], i: usize, u: usize, p: usize) -> Step
-    requires { ⌜ Quoting (now s) i u p ⌝ }
+// What stands first at p, with a quote told from all else by its byte: whether it is a string's is seen when its text is run through.
+pub fn lead_at(s: &[u8], p: usize, lines: bool) -> Head
+    ensures { λ r. ⌜ LeadAt (now (s .entry)) p lines r ⌝ }
+{
+    if byte_at(s, p) == 34 {
+        return Head {
+            kind: Kind::STRING,
+            end: p,
+        };
+    }
+    head_at(s, p, lines)
+}
+
+// A string at p with its run: its record and, where it is escaped, its text.
+pub fn string(
+    s: &[u8],
+    nodes: &mut [u16],
+    text: &mut [u8],
+    i: usize,
+    u: usize,
+    p: usize,
+    r: Run,
+) -> Step
+    requires { ⌜ Quoting (now s) i u p × RunHere quoted (now s) (p + 1) r ⌝ }
     ensures { λ r. ⌜ SaidString (now (s .entry)) i u p (now (nodes .entry)) (now (nodes .exit)) (now (text .entry)) (now (text .exit)) r ⌝ }
 {
     let from = p + 1;
-    let r = run_at(s, from, true, 0, 0);
     let why = r.why;
     let c = ends(s, p, r.end, 0, 0, why);
     if c.kind != 0 {

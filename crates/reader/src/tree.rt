@@ -1,5 +1,8 @@
 // The functions that call one another: expression, term, quoted template and interpolation, with whatever else holds expressions.
 use crate::Step;
+use crate::bare::attribute;
+use crate::bare::called;
+use crate::bare::tilde;
 use crate::items::bare;
 use crate::items::behind;
 use crate::items::keep;
@@ -10,16 +13,17 @@ use crate::put::accept;
 use crate::put::close;
 use crate::put::refuse;
 use crate::text::ends;
+use crate::text::lead_at;
 use crate::text::piece;
 use crate::text::string;
 use grammar::kinds::Kind;
 use grammar::kinds::Refusal;
 use grammar::kinds::tight;
+use grammar::moves::is_part;
 use grammar::moves::space;
 use grammar::moves::unexpected;
 use grammar::moves::walk;
 use grammar::picks::follow;
-use grammar::picks::head_at;
 use grammar::picks::key_at;
 use grammar::picks::next_at;
 use grammar::picks::part_at;
@@ -30,6 +34,7 @@ use grammar::program::child;
 use grammar::program::instr;
 use index::find;
 use lexis::bytes::one_at;
+use lexis::bytes::two_at;
 use lexis::heredoc::opener_at;
 use lexis::string::Why;
 use lexis::string::run_at;
@@ -43,11 +48,12 @@ ghost use Rattle.engine.specs.Base.{has};
 ghost use Rattle.index.specs.Mark.{markAt};
 ghost use Rattle.index.specs.Index.{Indexed};
 ghost use Rattle.grammar.specs.Said.{classes};
-ghost use Rattle.grammar.specs.Alone.{headOf, HeadAt, NextAt, keyOf, Word, KeyAt};
+ghost use Rattle.lexis.specs.Bytes.{byteAt};
+ghost use Rattle.grammar.specs.Alone.{headOf, NextAt, keyOf, Word, KeyAt};
 ghost use Rattle.grammar.specs.Moves.{anExpression};
 ghost use Rattle.grammar.specs.Layouts.{layoutOf, textLay};
 ghost use Rattle.grammar.specs.Hcl.{under, pickAt};
-ghost use Rattle.reader.specs.Said.{Asked, Said, Climbs, Firsts, Terms, Heads, Primary, Laying, SaidMade, SaidSub, SaidItem, Any, underAny, anyBefore, One, Texting};
+ghost use Rattle.reader.specs.Said.{Asked, Said, Climbs, Firsts, Terms, Heads, Primary, LeadAt, Bracketed, Laying, SaidMade, SaidSub, SaidItem, Any, underAny, anyBefore, One, Texting};
 
 // The classes that are no expressions, as the program numbers them.
 const CALLED: u8 = 9;
@@ -73,7 +79,7 @@ pub fn expr(
     requires { ⌜ Asked (now s) (now keys) i u k p × (j ≤ 7) ⌝ }
     ensures { λ r. ⌜ Said (Climbs (now (s .entry)) (under left lines anExpression) j p) (now (s .entry)) i u k p (now (nodes .entry)) (now (nodes .exit)) (now (text .entry)) (now (text .exit)) (now (keys .entry)) (now (keys .exit)) r ⌝ }
 {
-    let x = head_at(s, p, lines);
+    let x = lead_at(s, p, lines);
     let l = first(s, nodes, text, keys, i, u, k, p, left, lines, x.kind, x.end);
     if l.kind != 0 {
         return l;
@@ -126,7 +132,7 @@ pub fn first(
     kind: u16,
     end: usize,
 ) -> Step
-    requires { ⌜ Asked (now s) (now keys) i u k p × HeadAt (now s) p lines (headOf kind end) ⌝ }
+    requires { ⌜ Asked (now s) (now keys) i u k p × LeadAt (now s) p lines (headOf kind end) ⌝ }
     ensures { λ r. ⌜ Said (Firsts (now (s .entry)) (under left lines anExpression) p) (now (s .entry)) i u k p (now (nodes .entry)) (now (nodes .exit)) (now (text .entry)) (now (text .exit)) (now (keys .entry)) (now (keys .exit)) r ⌝ }
 {
     if end != p {
@@ -163,6 +169,9 @@ pub fn grow(
     ensures { λ r. ⌜ SaidMade Any (now (s .entry)) (underAny kind left lines) start anyBefore kind (layoutOf kind) p i u before p k (now (nodes .entry)) (now (nodes .exit)) (now (text .entry)) (now (text .exit)) (now (keys .entry)) (now (keys .exit)) r ⌝ }
 {
     if end == p {
+        if kind == Kind::TRAVERSAL {
+            return parts(s, nodes, text, keys, i, u, k, start, p, left, lines, before);
+        }
         return laid(
             s,
             nodes,
@@ -269,6 +278,13 @@ fn is_unary(kind: u16) -> bool
     kind == Kind::NEGATION || kind == Kind::NOT
 }
 
+// Whether a kind is that of a quote: a string or a template.
+fn is_quoted(kind: u16) -> bool
+    ensures { λ r. ⌜ r ≡ (eqb kind 6 || eqb kind 7) ⌝ }
+{
+    kind == Kind::STRING || kind == Kind::TEMPLATE
+}
+
 // What a term begins with, of a kind that is no unary operator.
 pub fn prim(
     s: &[u8],
@@ -286,10 +302,7 @@ pub fn prim(
     requires { ⌜ Asked (now s) (now keys) i u k p × Primary (now s) left lines p kind ⌝ }
     ensures { λ r. ⌜ Said (Heads (now (s .entry)) (under left lines anExpression) p) (now (s .entry)) i u k p (now (nodes .entry)) (now (nodes .exit)) (now (text .entry)) (now (text .exit)) (now (keys .entry)) (now (keys .exit)) r ⌝ }
 {
-    if kind == Kind::STRING {
-        return string(s, nodes, text, i, u, p);
-    }
-    if kind == Kind::TEMPLATE {
+    if is_quoted(kind) {
         return quoted(s, nodes, text, keys, i, u, k, p, left, lines);
     }
     if kind == Kind::HEREDOC {
@@ -297,6 +310,9 @@ pub fn prim(
     }
     if kind == Kind::OBJECT {
         return object(s, nodes, text, keys, i, u, k, p, left, lines);
+    }
+    if kind == Kind::PARENTHESES {
+        return within(s, nodes, text, keys, i, u, k, p, left, lines, kind, 41);
     }
     laid(s, nodes, text, keys, i, u, k, p, p, left, lines, kind, 0)
 }
@@ -329,61 +345,45 @@ pub fn laid(
         if x.op == Instr::FIN {
             return close(nodes, i, n, kind, x.arg, start, q, before, t);
         }
-        if x.op == Instr::KID {
-            let m = sub(
-                s,
-                nodes,
-                text,
-                keys,
-                i + n,
-                u + t,
-                k,
-                q,
-                left,
-                lines,
-                x.class,
-            );
-            if m.kind != 0 {
-                return m;
+        let mut at = q;
+        let mut further = pc + 1;
+        if x.op != Instr::KID {
+            let w = walk(s, left, lines, x.arg, q);
+            if w.kind != 0 {
+                if x.op == Instr::MOVE {
+                    return refuse(w.kind, w.at);
+                }
+                pc = x.next;
+                continue;
             }
-            q = m.end;
-            n = n + m.count;
-            t = t + m.text;
-            pc = pc + 1;
-            continue;
-        }
-        let w = walk(s, left, lines, x.arg, q);
-        if w.kind != 0 {
-            if x.op == Instr::MOVE {
-                return refuse(w.kind, w.at);
+            if x.op != Instr::REP {
+                q = w.at;
+                pc = pc + 1;
+                continue;
             }
-            pc = x.next;
-            continue;
+            at = w.at;
+            further = pc;
         }
-        if x.op == Instr::REP {
-            let m = sub(
-                s,
-                nodes,
-                text,
-                keys,
-                i + n,
-                u + t,
-                k,
-                w.at,
-                left,
-                lines,
-                x.class,
-            );
-            if m.kind != 0 {
-                return m;
-            }
-            q = m.end;
-            n = n + m.count;
-            t = t + m.text;
-            continue;
+        let m = sub(
+            s,
+            nodes,
+            text,
+            keys,
+            i + n,
+            u + t,
+            k,
+            at,
+            left,
+            lines,
+            x.class,
+        );
+        if m.kind != 0 {
+            return m;
         }
-        q = w.at;
-        pc = pc + 1;
+        q = m.end;
+        n = n + m.count;
+        t = t + m.text;
+        pc = further;
     }
 }
 
@@ -406,21 +406,7 @@ pub fn sub(
 {
     let y = child(class, left, lines);
     if class == CALLED {
-        return laid(
-            s,
-            nodes,
-            text,
-            keys,
-            i,
-            u,
-            k,
-            p,
-            p,
-            y.left,
-            y.lines,
-            Kind::NAME,
-            0,
-        );
+        return called(s, nodes, i, p);
     }
     if class == FILTER {
         return laid(
@@ -464,6 +450,122 @@ pub fn sub(
     expr(s, nodes, text, keys, i, u, k, p, y.left, y.lines, y.bound)
 }
 
+// An expression in brackets at p, of a kind, with what closes it.
+pub fn within(
+    s: &[u8],
+    nodes: &mut [u16],
+    text: &mut [u8],
+    keys: &mut [u16],
+    i: usize,
+    u: usize,
+    k: usize,
+    p: usize,
+    left: usize,
+    lines: bool,
+    kind: u16,
+    closer: u8,
+) -> Step
+    requires { ⌜ Asked (now s) (now keys) i u k p × Bracketed (now s) p kind closer ⌝ }
+    ensures { λ r. ⌜ SaidMade Any (now (s .entry)) (underAny kind left lines) p anyBefore kind (layoutOf kind) p i u 0 p k (now (nodes .entry)) (now (nodes .exit)) (now (text .entry)) (now (text .exit)) (now (keys .entry)) (now (keys .exit)) r ⌝ }
+{
+    if left == 0 {
+        return refuse(Refusal::DEEP, p);
+    }
+    let g = space(s, p + 1, true);
+    if g.kind != 0 {
+        return refuse(g.kind, g.at);
+    }
+    let m = expr(s, nodes, text, keys, i, u, k, g.at, left - 1, true, 0);
+    if m.kind != 0 {
+        return m;
+    }
+    let h = space(s, m.end, true);
+    if h.kind != 0 {
+        return refuse(h.kind, h.at);
+    }
+    if !one_at(s, h.at, closer) {
+        let w = unexpected(s, h.at);
+        return refuse(w.kind, w.at);
+    }
+    close(nodes, i, m.count, kind, 0, p, h.at + 1, 0, m.text)
+}
+
+// A part of a traversal at p.
+pub fn part(
+    s: &[u8],
+    nodes: &mut [u16],
+    text: &mut [u8],
+    keys: &mut [u16],
+    i: usize,
+    u: usize,
+    k: usize,
+    p: usize,
+    left: usize,
+    lines: bool,
+) -> Step
+    requires { ⌜ Asked (now s) (now keys) i u k p ⌝ }
+    ensures { λ r. ⌜ SaidSub 10 left lines (now (s .entry)) i u k p (now (nodes .entry)) (now (nodes .exit)) (now (text .entry)) (now (text .exit)) (now (keys .entry)) (now (keys .exit)) r ⌝ }
+{
+    let kind = part_at(s, p);
+    if kind == Kind::NONE {
+        let w = unexpected(s, p);
+        return refuse(w.kind, w.at);
+    }
+    if kind == Kind::ATTRIBUTE {
+        return attribute(s, nodes, i, p);
+    }
+    if kind == Kind::INDEX {
+        return within(s, nodes, text, keys, i, u, k, p, left, lines, kind, 93);
+    }
+    laid(s, nodes, text, keys, i, u, k, p, p, left, lines, kind, 0)
+}
+
+// The parts of a traversal from p on, for a node from `start`; `before` records of its base stand before the i-th.
+pub fn parts(
+    s: &[u8],
+    nodes: &mut [u16],
+    text: &mut [u8],
+    keys: &mut [u16],
+    i: usize,
+    u: usize,
+    k: usize,
+    start: usize,
+    p: usize,
+    left: usize,
+    lines: bool,
+    before: usize,
+) -> Step
+    requires { ⌜ Asked (now s) (now keys) i u k p × Laying start p before 37 ⌝ }
+    ensures { λ r. ⌜ SaidMade Any (now (s .entry)) (underAny 37 left lines) start anyBefore 37 (layoutOf 37) p i u before p k (now (nodes .entry)) (now (nodes .exit)) (now (text .entry)) (now (text .exit)) (now (keys .entry)) (now (keys .exit)) r ⌝ }
+{
+    let mut q = p;
+    let mut n = 0;
+    let mut t = 0;
+    loop {
+        let g = space(s, q, lines);
+        if g.kind != 0 {
+            if n == 0 {
+                return refuse(g.kind, g.at);
+            }
+            return close(nodes, i, n, Kind::TRAVERSAL, 0, start, q, before, t);
+        }
+        if !is_part(s, g.at) {
+            if n == 0 {
+                let w = unexpected(s, g.at);
+                return refuse(w.kind, w.at);
+            }
+            return close(nodes, i, n, Kind::TRAVERSAL, 0, start, q, before, t);
+        }
+        let m = part(s, nodes, text, keys, i + n, u + t, k, g.at, left, lines);
+        if m.kind != 0 {
+            return m;
+        }
+        q = m.end;
+        n = n + m.count;
+        t = t + m.text;
+    }
+}
+
 // An interpolation at p.
 pub fn interp(
     s: &[u8],
@@ -480,24 +582,47 @@ pub fn interp(
     requires { ⌜ Asked (now s) (now keys) i u k p ⌝ }
     ensures { λ r. ⌜ SaidMade Any (now (s .entry)) (underAny 10 left lines) p anyBefore 10 (layoutOf 10) p i u 0 p k (now (nodes .entry)) (now (nodes .exit)) (now (text .entry)) (now (text .exit)) (now (keys .entry)) (now (keys .exit)) r ⌝ }
 {
-    laid(
-        s,
+    if !two_at(s, p, 36, 123) {
+        let w = unexpected(s, p);
+        return refuse(w.kind, w.at);
+    }
+    if left == 0 {
+        return refuse(Refusal::DEEP, p);
+    }
+    let f = tilde(s, p + 2);
+    let g = space(s, p + 2 + f, true);
+    if g.kind != 0 {
+        return refuse(g.kind, g.at);
+    }
+    let m = expr(s, nodes, text, keys, i, u, k, g.at, left - 1, true, 0);
+    if m.kind != 0 {
+        return m;
+    }
+    let h = space(s, m.end, true);
+    if h.kind != 0 {
+        return refuse(h.kind, h.at);
+    }
+    let z = tilde(s, h.at);
+    let c = h.at + z;
+    if !one_at(s, c, 125) {
+        let w = unexpected(s, c);
+        return refuse(w.kind, w.at);
+    }
+    let flag = f + 2 * z;
+    close(
         nodes,
-        text,
-        keys,
         i,
-        u,
-        k,
-        p,
-        p,
-        left,
-        lines,
+        m.count,
         Kind::INTERPOLATION,
+        flag,
+        p,
+        c + 1,
         0,
+        m.text,
     )
 }
 
-// A quoted template at p, with an interpolation in it.
+// A quote at p: a string, or a template where an interpolation ends its first run.
 pub fn quoted(
     s: &[u8],
     nodes: &mut [u16],
@@ -510,9 +635,14 @@ pub fn quoted(
     left: usize,
     lines: bool,
 ) -> Step
-    requires { ⌜ Asked (now s) (now keys) i u k p × (pickAt (now s) (under left lines anExpression) p ≡ some 7) ⌝ }
+    requires { ⌜ Asked (now s) (now keys) i u k p × (byteAt (now s) p ≡ 34) ⌝ }
     ensures { λ r. ⌜ Said (Heads (now (s .entry)) (under left lines anExpression) p) (now (s .entry)) i u k p (now (nodes .entry)) (now (nodes .exit)) (now (text .entry)) (now (text .exit)) (now (keys .entry)) (now (keys .exit)) r ⌝ }
 {
+    let r = run_at(s, p + 1, true, 0, 0);
+    let why = r.why;
+    let Why::Interpolation = why else {
+        return string(s, nodes, text, i, u, p, r);
+    };
     pieces(
         s,
         nodes,

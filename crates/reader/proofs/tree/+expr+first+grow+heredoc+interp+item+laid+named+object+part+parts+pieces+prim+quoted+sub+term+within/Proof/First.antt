@@ -3,18 +3,18 @@ use Prim.Native.Nat.{ℕ, _+_, _*_, _-_, _<_}
 use mathlib.Core.Path.{_≡_, refl, sym, _∙_}
 use native.Mathlib.Omega.{arith}
 use Rattle.reader.proofs.Answers.{kept-same}
-use Rattle.reader.proofs.Terms.{term-primary}
-use Rattle.reader.proofs.Firsts.{first-term, first-head, first-none, leaf-closing, first-leaf}
+use Rattle.reader.proofs.Firsts.{first-term, first-none, leaf-closing, first-leaf}
+use Rattle.reader.proofs.Leads.{lead-none, lead-primary, lead-first}
 use borrow.Author.Needs.{needs}
 use Rattle.reader.proofs.tree.first.Reads as first
-use Rattle.reader.proofs.tree.+expr+first+grow+heredoc+interp+item+laid+named+object+pieces+prim+quoted+sub+term.Lts-first as first-lts
+use Rattle.reader.proofs.tree.+expr+first+grow+heredoc+interp+item+laid+named+object+part+parts+pieces+prim+quoted+sub+term+within.Lts-first as first-lts
 use Rattle.reader.proofs.tree.term.Reads as term
 use Rattle.reader.proofs.tree.prim.Reads as prim
 use Rattle.grammar.proofs.moves.unexpected.Reads as unexpected-reads
 use Rattle.reader.proofs.put.close.Reads as close-reads
 use Rattle.reader.proofs.put.refuse.Reads as refuse-reads
 use Rattle.reader.proofs.tree.is_unary.Reads as is-unary-reads
-use Rattle.reader.proofs.tree.+expr+first+grow+heredoc+interp+item+laid+named+object+pieces+prim+quoted+sub+term.Proof.Common.{first-at, term-below, prim-below}
+use Rattle.reader.proofs.tree.+expr+first+grow+heredoc+interp+item+laid+named+object+part+parts+pieces+prim+quoted+sub+term+within.Proof.Common.{first-at, term-below, prim-below}
 
 -- what `first` calls, below the measure t
 abbrev calls : ℕ → first-lts.Claims
@@ -22,16 +22,16 @@ calls t = (close-reads.Asked, close-reads.Learnt, unexpected-reads.Asked, unexpe
 
 module _ (t : ℕ) where
   close-requires : first-lts.Need-close-requires (calls t) (first-at t) first.Post
-  close-requires c κs = leaf-closing (c .before .before .before .before .before .before .pre .1 .1) (c .before .if1 .taken) (c .before .before .before .before .before .before .pre .1 .0)
+  close-requires c κs = leaf-closing ((c .before .before .before .before .before .before .pre .1 .1 .alone) (c .before .if1 .taken)) (c .before .if1 .taken) (c .before .before .before .before .before .before .pre .1 .0)
 
   same-length : first-lts.Need-same-length (calls t) (first-at t) first.Post
   same-length c = omega (arith, (c .before .before .close .kept .0))
 
   returns : first-lts.Need-returns (calls t) (first-at t) first.Post
-  returns c = first-leaf (c .before .before .before .before .before .before .before .before .before .pre .1 .1) (c .before .before .before .before .if1 .taken) (c .before .before .before .before .before .before .before .before .before .pre .1 .0) (c .before .before .before .before .before .before .before .before .before .args .left) (c .before .before .before .before .before .before .before .before .before .args .nodes .now) (c .before .before .before .before .before .before .before .before .before .args .text .now) (c .before .before .close .ensures) (kept-same _)
+  returns c = first-leaf ((c .before .before .before .before .before .before .before .before .before .pre .1 .1 .alone) (c .before .before .before .before .if1 .taken)) (c .before .before .before .before .if1 .taken) (c .before .before .before .before .before .before .before .before .before .pre .1 .0) (c .before .before .before .before .before .before .before .before .before .args .left) (c .before .before .before .before .before .before .before .before .before .args .nodes .now) (c .before .before .before .before .before .before .before .before .before .args .text .now) (c .before .before .close .ensures) (kept-same _)
 
   returns-2 : first-lts.Need-returns-2 (calls t) (first-at t) first.Post
-  returns-2 c = first-none (c .before .before .before .before .before .before .before .before .pre .1 .1) (c .before .before .if2 .taken) (c .before .unexpected .ensures) (c .refuse .ensures) (c .before .before .before .before .before .before .before .before .pre .1 .0 .inside) (kept-same _)
+  returns-2 c = first-none (lead-none (c .before .before .before .before .before .before .before .before .pre .1 .1) (c .before .before .if2 .taken)) (c .before .before .if2 .taken) (c .before .unexpected .ensures) (c .refuse .ensures) (c .before .before .before .before .before .before .before .before .pre .1 .0 .inside) (kept-same _)
 
   term-requires : first-lts.Need-term-requires (calls t) (first-at t) first.Post
   term-requires c κs = (omega (arith, (c .before .before .before .before .before .before .before .before .before .before .before .pre .0)), (c .before .before .before .before .before .before .before .before .before .before .before .pre .1 .0))
@@ -49,7 +49,7 @@ module _ (t : ℕ) where
   returns-3 c = first-term (c .before .before .before .before .before .before .term .ensures)
 
   prim-requires : first-lts.Need-prim-requires (calls t) (first-at t) first.Post
-  prim-requires c κs = (omega (arith, (c .before .before .before .before .before .before .before .before .before .before .before .pre .0)), ((c .before .before .before .before .before .before .before .before .before .before .before .pre .1 .0), term-primary (c .before .before .before .before .before .before .before .before .before .before .before .args .s .now) (c .before .before .before .before .before .before .before .before .before .before .before .args .lines) (c .before .before .before .before .before .before .before .before .before .before .before .args .p) (c .before .before .before .before .before .before .before .before .before .before .before .args .kind) ((c .before .before .before .before .before .before .before .before .before .before .before .pre .1 .1 .kind)) (c .before .before .before .before .before .if2 .left) (c .before .before .before .before .before .before .before .before .before .before .before .args .left) (sym (c .before .before .before .before .is-unary .ensures) ∙ (c .before .before .before .if3 .left))))
+  prim-requires c κs = (omega (arith, (c .before .before .before .before .before .before .before .before .before .before .before .pre .0)), ((c .before .before .before .before .before .before .before .before .before .before .before .pre .1 .0), lead-primary (c .before .before .before .before .before .before .before .before .before .before .before .pre .1 .1) (c .before .before .before .before .before .if2 .left) (c .before .before .before .before .before .before .before .before .before .before .before .args .left) (sym (c .before .before .before .before .is-unary .ensures) ∙ (c .before .before .before .if3 .left))))
 
   same-length-5 : first-lts.Need-same-length-5 (calls t) (first-at t) first.Post
   same-length-5 c = omega (arith, (c .before .before .before .before .before .before .prim .kept .1 .0))
@@ -61,7 +61,7 @@ module _ (t : ℕ) where
   same-length-7 c = omega (arith, (c .before .before .before .before .before .before .prim .kept .1 .1 .1 .0))
 
   returns-4 : first-lts.Need-returns-4 (calls t) (first-at t) first.Post
-  returns-4 c = first-head (c .before .before .before .before .before .before .before .before .before .before .before .before .before .before .before .before .before .before .pre .1 .1) (c .before .before .before .before .before .before .before .before .before .before .before .before .if2 .left) (c .before .before .before .before .before .before .prim .ensures)
+  returns-4 c = lead-first (c .before .before .before .before .before .before .before .before .before .before .before .before .before .before .before .before .before .before .pre .1 .1) (c .before .before .before .before .before .before .before .before .before .before .before .before .if2 .left) (c .before .before .before .before .before .before .before .before .before .before .before .before .before .before .before .before .before .before .args .left) (c .before .before .before .before .before .before .prim .ensures)
 
   pub met : {M : Type 1} → first-lts.Closed (calls t) (first-at t) first.Post M
   met = first-lts.spec (calls t) (first-at t) first.Post

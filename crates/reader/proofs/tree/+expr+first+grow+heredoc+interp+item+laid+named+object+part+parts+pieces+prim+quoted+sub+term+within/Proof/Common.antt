@@ -22,6 +22,10 @@ use Rattle.reader.proofs.tree.named.Reads as named
 use Rattle.reader.proofs.tree.named.Kinds as named-kinds
 use Rattle.reader.proofs.tree.object.Reads as object
 use Rattle.reader.proofs.tree.object.Kinds as object-kinds
+use Rattle.reader.proofs.tree.part.Reads as part
+use Rattle.reader.proofs.tree.part.Kinds as part-kinds
+use Rattle.reader.proofs.tree.parts.Reads as parts
+use Rattle.reader.proofs.tree.parts.Kinds as parts-kinds
 use Rattle.reader.proofs.tree.pieces.Reads as pieces
 use Rattle.reader.proofs.tree.pieces.Kinds as pieces-kinds
 use Rattle.reader.proofs.tree.prim.Reads as prim
@@ -32,6 +36,8 @@ use Rattle.reader.proofs.tree.sub.Reads as sub
 use Rattle.reader.proofs.tree.sub.Kinds as sub-kinds
 use Rattle.reader.proofs.tree.term.Reads as term
 use Rattle.reader.proofs.tree.term.Kinds as term-kinds
+use Rattle.reader.proofs.tree.within.Reads as within
+use Rattle.reader.proofs.tree.within.Kinds as within-kinds
 
 abbrev pub μ-expr : Measures 4 expr-kinds.ps ℕ
 μ-expr κs a = 8388608 * a .1 .1 .1 .1 .1 .1 .1 .1 .0 + 128 * (length (a .0 .now) - a .1 .1 .1 .1 .1 .1 .1 .0) + 100
@@ -60,6 +66,12 @@ abbrev pub μ-named : Measures 4 named-kinds.ps ℕ
 abbrev pub μ-object : Measures 4 object-kinds.ps ℕ
 μ-object κs a = 8388608 * a .1 .1 .1 .1 .1 .1 .1 .1 .0 + 128 * (length (a .0 .now) - a .1 .1 .1 .1 .1 .1 .1 .0) + 94
 
+abbrev pub μ-part : Measures 4 part-kinds.ps ℕ
+μ-part κs a = 8388608 * a .1 .1 .1 .1 .1 .1 .1 .1 .0 + 128 * (length (a .0 .now) - a .1 .1 .1 .1 .1 .1 .1 .0) + 86
+
+abbrev pub μ-parts : Measures 4 parts-kinds.ps ℕ
+μ-parts κs a = 8388608 * a .1 .1 .1 .1 .1 .1 .1 .1 .1 .0 + 128 * (length (a .0 .now) - a .1 .1 .1 .1 .1 .1 .1 .1 .0) + 87
+
 abbrev pub μ-pieces : Measures 4 pieces-kinds.ps ℕ
 μ-pieces κs a = 8388608 * a .1 .1 .1 .1 .1 .1 .1 .1 .1 .0 + 128 * (length (a .0 .now) - a .1 .1 .1 .1 .1 .1 .1 .1 .0) + 92
 
@@ -74,6 +86,9 @@ abbrev pub μ-sub : Measures 4 sub-kinds.ps ℕ
 
 abbrev pub μ-term : Measures 4 term-kinds.ps ℕ
 μ-term κs a = 8388608 * a .1 .1 .1 .1 .1 .1 .1 .1 .0 + 128 * (length (a .0 .now) - a .1 .1 .1 .1 .1 .1 .1 .0) + 98
+
+abbrev pub μ-within : Measures 4 within-kinds.ps ℕ
+μ-within κs a = 8388608 * a .1 .1 .1 .1 .1 .1 .1 .1 .0 + 128 * (length (a .0 .now) - a .1 .1 .1 .1 .1 .1 .1 .0) + 85
 
 abbrev pub expr-at : ℕ → In 4 expr-kinds.ps
 expr-at t = and 4 expr-kinds.ps (is 4 expr-kinds.ps μ-expr t) expr.Pre
@@ -129,6 +144,18 @@ object-at t = and 4 object-kinds.ps (is 4 object-kinds.ps μ-object t) object.Pr
 abbrev pub object-below : ℕ → In 4 object-kinds.ps
 object-below t = and 4 object-kinds.ps (falls 4 object-kinds.ps _<_ μ-object t) object.Pre
 
+abbrev pub part-at : ℕ → In 4 part-kinds.ps
+part-at t = and 4 part-kinds.ps (is 4 part-kinds.ps μ-part t) part.Pre
+
+abbrev pub part-below : ℕ → In 4 part-kinds.ps
+part-below t = and 4 part-kinds.ps (falls 4 part-kinds.ps _<_ μ-part t) part.Pre
+
+abbrev pub parts-at : ℕ → In 4 parts-kinds.ps
+parts-at t = and 4 parts-kinds.ps (is 4 parts-kinds.ps μ-parts t) parts.Pre
+
+abbrev pub parts-below : ℕ → In 4 parts-kinds.ps
+parts-below t = and 4 parts-kinds.ps (falls 4 parts-kinds.ps _<_ μ-parts t) parts.Pre
+
 abbrev pub pieces-at : ℕ → In 4 pieces-kinds.ps
 pieces-at t = and 4 pieces-kinds.ps (is 4 pieces-kinds.ps μ-pieces t) pieces.Pre
 
@@ -158,3 +185,9 @@ term-at t = and 4 term-kinds.ps (is 4 term-kinds.ps μ-term t) term.Pre
 
 abbrev pub term-below : ℕ → In 4 term-kinds.ps
 term-below t = and 4 term-kinds.ps (falls 4 term-kinds.ps _<_ μ-term t) term.Pre
+
+abbrev pub within-at : ℕ → In 4 within-kinds.ps
+within-at t = and 4 within-kinds.ps (is 4 within-kinds.ps μ-within t) within.Pre
+
+abbrev pub within-below : ℕ → In 4 within-kinds.ps
+within-below t = and 4 within-kinds.ps (falls 4 within-kinds.ps _<_ μ-within t) within.Pre
