@@ -17,20 +17,21 @@ pub fn family(table: &[u16], i: usize, marks: &mut [u16]) -> usize
     if i + 1 < count {
         return i + 1;
     }
-    let lo = i + 1 - count;
+    let mut left = count - 1;
     let mut hi = i;
     let mut next = i;
-    while lo < hi {
+    while left != 0 {
         let c = wide(table[7 * hi - 3]);
         if c == 0 {
             return i + 1;
         }
-        if hi - lo < c {
+        if left < c {
             return i + 1;
         }
         marks[hi - 1] = next as u16;
         next = hi - 1;
         hi = hi - c;
+        left = left - c;
     }
     next
 }
