@@ -10,6 +10,7 @@ mod Names
 mod Parts
 mod Withins
 mod Interps
+mod Arrays
 mod Unaries
 mod Terms
 mod Firsts

@@ -1,6 +1,7 @@
 // The functions that call one another: expression, term, quoted template and interpolation, with whatever else holds expressions.
 use crate::Step;
 use crate::bare::attribute;
+use crate::bare::beyond;
 use crate::bare::called;
 use crate::bare::tilde;
 use crate::items::bare;
@@ -311,6 +312,9 @@ pub fn prim(
     if kind == Kind::OBJECT {
         return object(s, nodes, text, keys, i, u, k, p, left, lines);
     }
+    if kind == Kind::ARRAY {
+        return array(s, nodes, text, keys, i, u, k, p, left, lines);
+    }
     if kind == Kind::PARENTHESES {
         return within(s, nodes, text, keys, i, u, k, p, left, lines, kind, 41);
     }
@@ -448,6 +452,50 @@ pub fn sub(
         );
     }
     expr(s, nodes, text, keys, i, u, k, p, y.left, y.lines, y.bound)
+}
+
+// An array at p: its items, with a comma between two and perhaps behind the last.
+pub fn array(
+    s: &[u8],
+    nodes: &mut [u16],
+    text: &mut [u8],
+    keys: &mut [u16],
+    i: usize,
+    u: usize,
+    k: usize,
+    p: usize,
+    left: usize,
+    lines: bool,
+) -> Step
+    requires { ⌜ Asked (now s) (now keys) i u k p × (byteAt (now s) p ≡ 91) ⌝ }
+    ensures { λ r. ⌜ SaidMade Any (now (s .entry)) (underAny 11 left lines) p anyBefore 11 (layoutOf 11) p i u 0 p k (now (nodes .entry)) (now (nodes .exit)) (now (text .entry)) (now (text .exit)) (now (keys .entry)) (now (keys .exit)) r ⌝ }
+{
+    if left == 0 {
+        return refuse(Refusal::DEEP, p);
+    }
+    let g = space(s, p + 1, true);
+    if g.kind != 0 {
+        return refuse(g.kind, g.at);
+    }
+    let mut q = g.at;
+    let mut n = 0;
+    let mut t = 0;
+    loop {
+        if one_at(s, q, 93) {
+            return close(nodes, i, n, Kind::ARRAY, 0, p, q + 1, 0, t);
+        }
+        let m = expr(s, nodes, text, keys, i + n, u + t, k, q, left - 1, true, 0);
+        if m.kind != 0 {
+            return m;
+        }
+        n = n + m.count;
+        t = t + m.text;
+        let c = beyond(s, m.end);
+        if c.kind != 0 {
+            return refuse(c.kind, c.at);
+        }
+        q = c.at;
+    }
 }
 
 // An expression in brackets at p, of a kind, with what closes it.

@@ -8,12 +8,12 @@ use Rattle.reader.specs.Text.{flagOf}
 use Rattle.reader.proofs.Quotes.{heredoc-no, heredoc-asked, heredoc-texting, heredoc-said}
 use borrow.Author.Needs.{needs}
 use Rattle.reader.proofs.tree.heredoc.Reads as heredoc
-use Rattle.reader.proofs.tree.+expr+first+grow+heredoc+interp+item+laid+named+object+part+parts+pieces+prim+quoted+sub+term+within.Lts-heredoc as heredoc-lts
+use Rattle.reader.proofs.tree.+array+expr+first+grow+heredoc+interp+item+laid+named+object+part+parts+pieces+prim+quoted+sub+term+within.Lts-heredoc as heredoc-lts
 use Rattle.reader.proofs.tree.pieces.Reads as pieces
 use Rattle.grammar.proofs.moves.unexpected.Reads as unexpected-reads
 use Rattle.lexis.proofs.heredoc.opener_at.Reads as opener-at-reads
 use Rattle.reader.proofs.put.refuse.Reads as refuse-reads
-use Rattle.reader.proofs.tree.+expr+first+grow+heredoc+interp+item+laid+named+object+part+parts+pieces+prim+quoted+sub+term+within.Proof.Common.{heredoc-at, pieces-below}
+use Rattle.reader.proofs.tree.+array+expr+first+grow+heredoc+interp+item+laid+named+object+part+parts+pieces+prim+quoted+sub+term+within.Proof.Common.{heredoc-at, pieces-below}
 
 -- what `heredoc` calls, below the measure t
 abbrev calls : ℕ → heredoc-lts.Claims

@@ -11,14 +11,14 @@ use Rattle.reader.proofs.Laids.{Turn, turn-start}
 use Rattle.reader.proofs.Laidings.{Aim, laid-ok, laid-room, laid-stop, laid-other, laid-later, laid-on, laid-within, aim-kid, aim-past, aim-low, aim-high, aim-lead, aim-no, aim-yes, aim-far}
 use borrow.Author.Needs.{needs}
 use Rattle.reader.proofs.tree.laid.Reads as laid
-use Rattle.reader.proofs.tree.+expr+first+grow+heredoc+interp+item+laid+named+object+part+parts+pieces+prim+quoted+sub+term+within.Lts-laid as laid-lts
+use Rattle.reader.proofs.tree.+array+expr+first+grow+heredoc+interp+item+laid+named+object+part+parts+pieces+prim+quoted+sub+term+within.Lts-laid as laid-lts
 use Rattle.reader.proofs.tree.sub.Reads as sub
 use Rattle.grammar.proofs.moves.walk.Reads as walk-reads
 use Rattle.grammar.proofs.program.begin.Reads as begin-reads
 use Rattle.grammar.proofs.program.instr.Reads as instr-reads
 use Rattle.reader.proofs.put.close.Reads as close-reads
 use Rattle.reader.proofs.put.refuse.Reads as refuse-reads
-use Rattle.reader.proofs.tree.+expr+first+grow+heredoc+interp+item+laid+named+object+part+parts+pieces+prim+quoted+sub+term+within.Proof.Common.{laid-at, sub-below}
+use Rattle.reader.proofs.tree.+array+expr+first+grow+heredoc+interp+item+laid+named+object+part+parts+pieces+prim+quoted+sub+term+within.Proof.Common.{laid-at, sub-below}
 
 -- what `laid` calls, below the measure t
 abbrev calls : ℕ → laid-lts.Claims

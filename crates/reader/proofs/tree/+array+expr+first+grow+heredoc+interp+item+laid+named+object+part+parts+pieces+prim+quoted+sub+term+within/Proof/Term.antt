@@ -14,7 +14,7 @@ use borrow.Author.Needs.{needs}
 use Rattle.reader.proofs.tree.laid.Reads as laid
 use Rattle.reader.proofs.tree.prim.Reads as prim
 use Rattle.reader.proofs.tree.term.Reads as term
-use Rattle.reader.proofs.tree.+expr+first+grow+heredoc+interp+item+laid+named+object+part+parts+pieces+prim+quoted+sub+term+within.Lts-term as term-lts
+use Rattle.reader.proofs.tree.+array+expr+first+grow+heredoc+interp+item+laid+named+object+part+parts+pieces+prim+quoted+sub+term+within.Lts-term as term-lts
 use Rattle.grammar.proofs.moves.space.Reads as space-reads
 use Rattle.grammar.proofs.moves.unexpected.Reads as unexpected-reads
 use Rattle.grammar.proofs.picks.follow.Reads as follow-reads
@@ -23,7 +23,7 @@ use Rattle.reader.proofs.put.accept.Reads as accept-reads
 use Rattle.reader.proofs.put.close.Reads as close-reads
 use Rattle.reader.proofs.put.refuse.Reads as refuse-reads
 use Rattle.reader.proofs.tree.is_unary.Reads as is-unary-reads
-use Rattle.reader.proofs.tree.+expr+first+grow+heredoc+interp+item+laid+named+object+part+parts+pieces+prim+quoted+sub+term+within.Proof.Common.{term-at, laid-below, prim-below, term-below}
+use Rattle.reader.proofs.tree.+array+expr+first+grow+heredoc+interp+item+laid+named+object+part+parts+pieces+prim+quoted+sub+term+within.Proof.Common.{term-at, laid-below, prim-below, term-below}
 
 -- what `term` calls, below the measure t
 abbrev calls : ℕ → term-lts.Claims

@@ -8,7 +8,7 @@ use Rattle.reader.proofs.Firsts.{grow-low, grow-high, grow-inside, grow
 use Rattle.reader.proofs.Parts.{parts-as, parts-laying}
 use borrow.Author.Needs.{needs}
 use Rattle.reader.proofs.tree.grow.Reads as grow
-use Rattle.reader.proofs.tree.+expr+first+grow+heredoc+interp+item+laid+named+object+part+parts+pieces+prim+quoted+sub+term+within.Lts-grow as grow-lts
+use Rattle.reader.proofs.tree.+array+expr+first+grow+heredoc+interp+item+laid+named+object+part+parts+pieces+prim+quoted+sub+term+within.Lts-grow as grow-lts
 use Rattle.reader.proofs.tree.expr.Reads as expr
 use Rattle.reader.proofs.tree.laid.Reads as laid
 use Rattle.reader.proofs.tree.parts.Reads as parts
@@ -16,7 +16,7 @@ use Rattle.grammar.proofs.kinds.tight.Reads as tight-reads
 use Rattle.grammar.proofs.moves.space.Reads as space-reads
 use Rattle.reader.proofs.put.close.Reads as close-reads
 use Rattle.reader.proofs.put.refuse.Reads as refuse-reads
-use Rattle.reader.proofs.tree.+expr+first+grow+heredoc+interp+item+laid+named+object+part+parts+pieces+prim+quoted+sub+term+within.Proof.Common.{grow-at, parts-below, expr-below, laid-below}
+use Rattle.reader.proofs.tree.+array+expr+first+grow+heredoc+interp+item+laid+named+object+part+parts+pieces+prim+quoted+sub+term+within.Proof.Common.{grow-at, parts-below, expr-below, laid-below}
 
 -- what `grow` calls, below the measure t
 abbrev calls : ℕ → grow-lts.Claims

@@ -4,6 +4,8 @@ use lib.ListN.{length}
 use Rattle.reader.proofs.Ranks.{subRank}
 use borrow.Fn.Kinds.{In}
 use borrow.Fn.PlainCycle.{Measures, is, falls, and}
+use Rattle.reader.proofs.tree.array.Reads as array
+use Rattle.reader.proofs.tree.array.Kinds as array-kinds
 use Rattle.reader.proofs.tree.expr.Reads as expr
 use Rattle.reader.proofs.tree.expr.Kinds as expr-kinds
 use Rattle.reader.proofs.tree.first.Reads as first
@@ -38,6 +40,9 @@ use Rattle.reader.proofs.tree.term.Reads as term
 use Rattle.reader.proofs.tree.term.Kinds as term-kinds
 use Rattle.reader.proofs.tree.within.Reads as within
 use Rattle.reader.proofs.tree.within.Kinds as within-kinds
+
+abbrev pub μ-array : Measures 4 array-kinds.ps ℕ
+μ-array κs a = 8388608 * a .1 .1 .1 .1 .1 .1 .1 .1 .0 + 128 * (length (a .0 .now) - a .1 .1 .1 .1 .1 .1 .1 .0) + 85
 
 abbrev pub μ-expr : Measures 4 expr-kinds.ps ℕ
 μ-expr κs a = 8388608 * a .1 .1 .1 .1 .1 .1 .1 .1 .0 + 128 * (length (a .0 .now) - a .1 .1 .1 .1 .1 .1 .1 .0) + 100
@@ -89,6 +94,12 @@ abbrev pub μ-term : Measures 4 term-kinds.ps ℕ
 
 abbrev pub μ-within : Measures 4 within-kinds.ps ℕ
 μ-within κs a = 8388608 * a .1 .1 .1 .1 .1 .1 .1 .1 .0 + 128 * (length (a .0 .now) - a .1 .1 .1 .1 .1 .1 .1 .0) + 85
+
+abbrev pub array-at : ℕ → In 4 array-kinds.ps
+array-at t = and 4 array-kinds.ps (is 4 array-kinds.ps μ-array t) array.Pre
+
+abbrev pub array-below : ℕ → In 4 array-kinds.ps
+array-below t = and 4 array-kinds.ps (falls 4 array-kinds.ps _<_ μ-array t) array.Pre
 
 abbrev pub expr-at : ℕ → In 4 expr-kinds.ps
 expr-at t = and 4 expr-kinds.ps (is 4 expr-kinds.ps μ-expr t) expr.Pre

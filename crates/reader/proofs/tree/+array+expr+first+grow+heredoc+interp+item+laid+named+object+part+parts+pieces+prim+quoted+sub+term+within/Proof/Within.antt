@@ -9,13 +9,13 @@ use Rattle.reader.proofs.Withins.{within-there, within-high, within-clo
 use borrow.Author.Needs.{needs}
 use Rattle.reader.proofs.tree.expr.Reads as expr
 use Rattle.reader.proofs.tree.within.Reads as within
-use Rattle.reader.proofs.tree.+expr+first+grow+heredoc+interp+item+laid+named+object+part+parts+pieces+prim+quoted+sub+term+within.Lts-within as within-lts
+use Rattle.reader.proofs.tree.+array+expr+first+grow+heredoc+interp+item+laid+named+object+part+parts+pieces+prim+quoted+sub+term+within.Lts-within as within-lts
 use Rattle.reader.proofs.put.refuse.Reads as refuse-reads
 use Rattle.grammar.proofs.moves.space.Reads as space-reads
 use Rattle.lexis.proofs.bytes.one_at.Reads as one-at-reads
 use Rattle.grammar.proofs.moves.unexpected.Reads as unexpected-reads
 use Rattle.reader.proofs.put.close.Reads as close-reads
-use Rattle.reader.proofs.tree.+expr+first+grow+heredoc+interp+item+laid+named+object+part+parts+pieces+prim+quoted+sub+term+within.Proof.Common.{within-at, expr-below}
+use Rattle.reader.proofs.tree.+array+expr+first+grow+heredoc+interp+item+laid+named+object+part+parts+pieces+prim+quoted+sub+term+within.Proof.Common.{within-at, expr-below}
 
 -- what `within` calls, below the measure t
 abbrev calls : ℕ → within-lts.Claims

@@ -10,13 +10,13 @@ use Rattle.reader.proofs.Parts.{Parting, parting-start, parts-there, pa
 use borrow.Author.Needs.{needs}
 use Rattle.reader.proofs.tree.part.Reads as part
 use Rattle.reader.proofs.tree.parts.Reads as parts
-use Rattle.reader.proofs.tree.+expr+first+grow+heredoc+interp+item+laid+named+object+part+parts+pieces+prim+quoted+sub+term+within.Lts-parts as parts-lts
+use Rattle.reader.proofs.tree.+array+expr+first+grow+heredoc+interp+item+laid+named+object+part+parts+pieces+prim+quoted+sub+term+within.Lts-parts as parts-lts
 use Rattle.grammar.proofs.moves.space.Reads as space-reads
 use Rattle.reader.proofs.put.refuse.Reads as refuse-reads
 use Rattle.reader.proofs.put.close.Reads as close-reads
 use Rattle.grammar.proofs.moves.is_part.Reads as is-part-reads
 use Rattle.grammar.proofs.moves.unexpected.Reads as unexpected-reads
-use Rattle.reader.proofs.tree.+expr+first+grow+heredoc+interp+item+laid+named+object+part+parts+pieces+prim+quoted+sub+term+within.Proof.Common.{parts-at, part-below}
+use Rattle.reader.proofs.tree.+array+expr+first+grow+heredoc+interp+item+laid+named+object+part+parts+pieces+prim+quoted+sub+term+within.Proof.Common.{parts-at, part-below}
 
 -- what `parts` calls, below the measure t
 abbrev calls : ℕ → parts-lts.Claims

@@ -9,13 +9,13 @@ use borrow.Author.Needs.{needs}
 use Rattle.reader.proofs.tree.expr.Reads as expr
 use Rattle.reader.proofs.tree.laid.Reads as laid
 use Rattle.reader.proofs.tree.sub.Reads as sub
-use Rattle.reader.proofs.tree.+expr+first+grow+heredoc+interp+item+laid+named+object+part+parts+pieces+prim+quoted+sub+term+within.Lts-sub as sub-lts
+use Rattle.reader.proofs.tree.+array+expr+first+grow+heredoc+interp+item+laid+named+object+part+parts+pieces+prim+quoted+sub+term+within.Lts-sub as sub-lts
 use Rattle.grammar.proofs.moves.unexpected.Reads as unexpected-reads
 use Rattle.grammar.proofs.program.child.Reads as child-reads
 use Rattle.grammar.proofs.picks.part_at.Reads as part-at-reads
 use Rattle.reader.proofs.put.refuse.Reads as refuse-reads
 use Rattle.reader.proofs.bare.called.Reads as called-reads
-use Rattle.reader.proofs.tree.+expr+first+grow+heredoc+interp+item+laid+named+object+part+parts+pieces+prim+quoted+sub+term+within.Proof.Common.{sub-at, expr-below, laid-below}
+use Rattle.reader.proofs.tree.+array+expr+first+grow+heredoc+interp+item+laid+named+object+part+parts+pieces+prim+quoted+sub+term+within.Proof.Common.{sub-at, expr-below, laid-below}
 
 -- what `sub` calls, below the measure t
 abbrev calls : ℕ → sub-lts.Claims

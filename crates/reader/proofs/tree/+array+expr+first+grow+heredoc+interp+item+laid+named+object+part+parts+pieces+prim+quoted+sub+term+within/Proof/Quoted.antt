@@ -17,8 +17,8 @@ use Rattle.lexis.proofs.string.run_at.Reads as run-at-reads
 use Rattle.reader.proofs.text.string.Reads as string-reads
 use Rattle.reader.proofs.tree.pieces.Reads as pieces
 use Rattle.reader.proofs.tree.quoted.Reads as quoted
-use Rattle.reader.proofs.tree.+expr+first+grow+heredoc+interp+item+laid+named+object+part+parts+pieces+prim+quoted+sub+term+within.Lts-quoted as quoted-lts
-use Rattle.reader.proofs.tree.+expr+first+grow+heredoc+interp+item+laid+named+object+part+parts+pieces+prim+quoted+sub+term+within.Proof.Common.{quoted-at, pieces-below}
+use Rattle.reader.proofs.tree.+array+expr+first+grow+heredoc+interp+item+laid+named+object+part+parts+pieces+prim+quoted+sub+term+within.Lts-quoted as quoted-lts
+use Rattle.reader.proofs.tree.+array+expr+first+grow+heredoc+interp+item+laid+named+object+part+parts+pieces+prim+quoted+sub+term+within.Proof.Common.{quoted-at, pieces-below}
 
 -- what `quoted` calls, below the measure t
 abbrev calls : ℕ → quoted-lts.Claims

@@ -9,7 +9,7 @@ use Rattle.reader.proofs.Interps.{tilde-few, tilde-high, interp-two, br
 use borrow.Author.Needs.{needs}
 use Rattle.reader.proofs.tree.expr.Reads as expr
 use Rattle.reader.proofs.tree.interp.Reads as interp
-use Rattle.reader.proofs.tree.+expr+first+grow+heredoc+interp+item+laid+named+object+part+parts+pieces+prim+quoted+sub+term+within.Lts-interp as interp-lts
+use Rattle.reader.proofs.tree.+array+expr+first+grow+heredoc+interp+item+laid+named+object+part+parts+pieces+prim+quoted+sub+term+within.Lts-interp as interp-lts
 use Rattle.lexis.proofs.bytes.two_at.Reads as two-at-reads
 use Rattle.grammar.proofs.moves.unexpected.Reads as unexpected-reads
 use Rattle.reader.proofs.put.refuse.Reads as refuse-reads
@@ -17,7 +17,7 @@ use Rattle.reader.proofs.bare.tilde.Reads as tilde-reads
 use Rattle.grammar.proofs.moves.space.Reads as space-reads
 use Rattle.lexis.proofs.bytes.one_at.Reads as one-at-reads
 use Rattle.reader.proofs.put.close.Reads as close-reads
-use Rattle.reader.proofs.tree.+expr+first+grow+heredoc+interp+item+laid+named+object+part+parts+pieces+prim+quoted+sub+term+within.Proof.Common.{interp-at, expr-below}
+use Rattle.reader.proofs.tree.+array+expr+first+grow+heredoc+interp+item+laid+named+object+part+parts+pieces+prim+quoted+sub+term+within.Proof.Common.{interp-at, expr-below}
 
 -- what `interp` calls, below the measure t
 abbrev calls : ℕ → interp-lts.Claims

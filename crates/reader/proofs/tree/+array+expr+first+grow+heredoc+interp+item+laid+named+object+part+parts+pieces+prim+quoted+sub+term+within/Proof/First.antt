@@ -7,14 +7,14 @@ use Rattle.reader.proofs.Firsts.{first-term, first-none, leaf-closing, 
 use Rattle.reader.proofs.Leads.{lead-none, lead-primary, lead-first}
 use borrow.Author.Needs.{needs}
 use Rattle.reader.proofs.tree.first.Reads as first
-use Rattle.reader.proofs.tree.+expr+first+grow+heredoc+interp+item+laid+named+object+part+parts+pieces+prim+quoted+sub+term+within.Lts-first as first-lts
+use Rattle.reader.proofs.tree.+array+expr+first+grow+heredoc+interp+item+laid+named+object+part+parts+pieces+prim+quoted+sub+term+within.Lts-first as first-lts
 use Rattle.reader.proofs.tree.term.Reads as term
 use Rattle.reader.proofs.tree.prim.Reads as prim
 use Rattle.grammar.proofs.moves.unexpected.Reads as unexpected-reads
 use Rattle.reader.proofs.put.close.Reads as close-reads
 use Rattle.reader.proofs.put.refuse.Reads as refuse-reads
 use Rattle.reader.proofs.tree.is_unary.Reads as is-unary-reads
-use Rattle.reader.proofs.tree.+expr+first+grow+heredoc+interp+item+laid+named+object+part+parts+pieces+prim+quoted+sub+term+within.Proof.Common.{first-at, term-below, prim-below}
+use Rattle.reader.proofs.tree.+array+expr+first+grow+heredoc+interp+item+laid+named+object+part+parts+pieces+prim+quoted+sub+term+within.Proof.Common.{first-at, term-below, prim-below}
 
 -- what `first` calls, below the measure t
 abbrev calls : ℕ → first-lts.Claims

@@ -11,12 +11,12 @@ use borrow.Author.Needs.{needs}
 use Rattle.reader.proofs.tree.laid.Reads as laid
 use Rattle.reader.proofs.tree.part.Reads as part
 use Rattle.reader.proofs.tree.within.Reads as within
-use Rattle.reader.proofs.tree.+expr+first+grow+heredoc+interp+item+laid+named+object+part+parts+pieces+prim+quoted+sub+term+within.Lts-part as part-lts
+use Rattle.reader.proofs.tree.+array+expr+first+grow+heredoc+interp+item+laid+named+object+part+parts+pieces+prim+quoted+sub+term+within.Lts-part as part-lts
 use Rattle.grammar.proofs.picks.part_at.Reads as part-at-reads
 use Rattle.grammar.proofs.moves.unexpected.Reads as unexpected-reads
 use Rattle.reader.proofs.put.refuse.Reads as refuse-reads
 use Rattle.reader.proofs.bare.attribute.Reads as attribute-reads
-use Rattle.reader.proofs.tree.+expr+first+grow+heredoc+interp+item+laid+named+object+part+parts+pieces+prim+quoted+sub+term+within.Proof.Common.{part-at, within-below, laid-below}
+use Rattle.reader.proofs.tree.+array+expr+first+grow+heredoc+interp+item+laid+named+object+part+parts+pieces+prim+quoted+sub+term+within.Proof.Common.{part-at, within-below, laid-below}
 
 -- what `part` calls, below the measure t
 abbrev calls : ℕ → part-lts.Claims

@@ -10,14 +10,14 @@ use Rattle.reader.proofs.Answers.{good, pass, kept-same, kept-join, Tur
 use Rattle.reader.proofs.Exprs.{Only, expr-stop, expr-known, expr-no, expr-more, expr-far}
 use borrow.Author.Needs.{needs}
 use Rattle.reader.proofs.tree.expr.Reads as expr
-use Rattle.reader.proofs.tree.+expr+first+grow+heredoc+interp+item+laid+named+object+part+parts+pieces+prim+quoted+sub+term+within.Lts-expr as expr-lts
+use Rattle.reader.proofs.tree.+array+expr+first+grow+heredoc+interp+item+laid+named+object+part+parts+pieces+prim+quoted+sub+term+within.Lts-expr as expr-lts
 use Rattle.reader.proofs.tree.first.Reads as first
 use Rattle.reader.proofs.tree.grow.Reads as grow
 use Rattle.grammar.proofs.kinds.tight.Reads as tight-reads
 use Rattle.grammar.proofs.picks.next_at.Reads as next-at-reads
 use Rattle.reader.proofs.put.accept.Reads as accept-reads
 use Rattle.reader.proofs.text.lead_at.Reads as lead-at-reads
-use Rattle.reader.proofs.tree.+expr+first+grow+heredoc+interp+item+laid+named+object+part+parts+pieces+prim+quoted+sub+term+within.Proof.Common.{expr-at, grow-below, first-below}
+use Rattle.reader.proofs.tree.+array+expr+first+grow+heredoc+interp+item+laid+named+object+part+parts+pieces+prim+quoted+sub+term+within.Proof.Common.{expr-at, grow-below, first-below}
 
 -- what `expr` calls, below the measure t
 abbrev calls : ℕ → expr-lts.Claims

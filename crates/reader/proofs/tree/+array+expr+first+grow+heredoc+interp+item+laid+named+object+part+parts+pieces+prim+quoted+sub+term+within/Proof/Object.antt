@@ -8,7 +8,7 @@ use borrow.Author.Needs.{needs}
 use Prim.Native.Nat.{ℕ, _-_}
 use Rattle.reader.proofs.tree.item.Reads as item
 use Rattle.reader.proofs.tree.object.Reads as object
-use Rattle.reader.proofs.tree.+expr+first+grow+heredoc+interp+item+laid+named+object+part+parts+pieces+prim+quoted+sub+term+within.Lts-object as object-lts
+use Rattle.reader.proofs.tree.+array+expr+first+grow+heredoc+interp+item+laid+named+object+part+parts+pieces+prim+quoted+sub+term+within.Lts-object as object-lts
 use Rattle.grammar.proofs.moves.space.Reads as space-reads
 use Rattle.grammar.proofs.picks.key_at.Reads as key-at-reads
 use Rattle.lexis.proofs.bytes.one_at.Reads as one-at-reads
@@ -17,7 +17,7 @@ use Rattle.reader.proofs.items.keep.Reads as keep-reads
 use Rattle.reader.proofs.items.marked.Reads as marked-reads
 use Rattle.reader.proofs.put.close.Reads as close-reads
 use Rattle.reader.proofs.put.refuse.Reads as refuse-reads
-use Rattle.reader.proofs.tree.+expr+first+grow+heredoc+interp+item+laid+named+object+part+parts+pieces+prim+quoted+sub+term+within.Proof.Common.{object-at, item-below}
+use Rattle.reader.proofs.tree.+array+expr+first+grow+heredoc+interp+item+laid+named+object+part+parts+pieces+prim+quoted+sub+term+within.Proof.Common.{object-at, item-below}
 
 -- what `object` calls, below the measure t
 abbrev calls : ℕ → object-lts.Claims

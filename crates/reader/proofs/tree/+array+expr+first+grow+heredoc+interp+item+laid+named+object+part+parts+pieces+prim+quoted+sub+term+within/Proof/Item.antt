@@ -7,13 +7,13 @@ use Prim.Native.Nat.{ℕ}
 use Rattle.reader.proofs.tree.expr.Reads as expr
 use Rattle.reader.proofs.tree.item.Reads as item
 use Rattle.reader.proofs.tree.named.Reads as named
-use Rattle.reader.proofs.tree.+expr+first+grow+heredoc+interp+item+laid+named+object+part+parts+pieces+prim+quoted+sub+term+within.Lts-item as item-lts
+use Rattle.reader.proofs.tree.+array+expr+first+grow+heredoc+interp+item+laid+named+object+part+parts+pieces+prim+quoted+sub+term+within.Lts-item as item-lts
 use Rattle.grammar.proofs.moves.space.Reads as space-reads
 use Rattle.reader.proofs.items.bare.Reads as bare-reads
 use Rattle.reader.proofs.items.sign_at.Reads as sign-at-reads
 use Rattle.reader.proofs.put.close.Reads as close-reads
 use Rattle.reader.proofs.put.refuse.Reads as refuse-reads
-use Rattle.reader.proofs.tree.+expr+first+grow+heredoc+interp+item+laid+named+object+part+parts+pieces+prim+quoted+sub+term+within.Proof.Common.{item-at, expr-below, named-below}
+use Rattle.reader.proofs.tree.+array+expr+first+grow+heredoc+interp+item+laid+named+object+part+parts+pieces+prim+quoted+sub+term+within.Proof.Common.{item-at, expr-below, named-below}
 
 -- what `item` calls, below the measure t
 abbrev calls : ℕ → item-lts.Claims

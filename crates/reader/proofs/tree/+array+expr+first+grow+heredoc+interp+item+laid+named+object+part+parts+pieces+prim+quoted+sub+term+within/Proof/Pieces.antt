@@ -14,12 +14,12 @@ use Rattle.reader.proofs.Pieces.{Round, round-start, round-piece, round
 use borrow.Author.Needs.{needs}
 use Rattle.reader.proofs.tree.interp.Reads as interp
 use Rattle.reader.proofs.tree.pieces.Reads as pieces
-use Rattle.reader.proofs.tree.+expr+first+grow+heredoc+interp+item+laid+named+object+part+parts+pieces+prim+quoted+sub+term+within.Lts-pieces as pieces-lts
+use Rattle.reader.proofs.tree.+array+expr+first+grow+heredoc+interp+item+laid+named+object+part+parts+pieces+prim+quoted+sub+term+within.Lts-pieces as pieces-lts
 use Rattle.lexis.proofs.string.run_at.Reads as run-at-reads
 use Rattle.reader.proofs.put.close.Reads as close-reads
 use Rattle.reader.proofs.text.ends.Reads as ends-reads
 use Rattle.reader.proofs.text.piece.Reads as piece-reads
-use Rattle.reader.proofs.tree.+expr+first+grow+heredoc+interp+item+laid+named+object+part+parts+pieces+prim+quoted+sub+term+within.Proof.Common.{pieces-at, interp-below}
+use Rattle.reader.proofs.tree.+array+expr+first+grow+heredoc+interp+item+laid+named+object+part+parts+pieces+prim+quoted+sub+term+within.Proof.Common.{pieces-at, interp-below}
 
 -- what `pieces` calls, below the measure t
 abbrev calls : ℕ → pieces-lts.Claims
