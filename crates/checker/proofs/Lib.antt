@@ -5,6 +5,7 @@ pub mod Lones
 mod Lays
 mod Passes
 mod Directs
+mod Afters
 mod Objects
 mod Bares
 pub mod Atoms

@@ -95,7 +95,7 @@ item-no : (s : List ℕ) (p : ℕ) → isSpace (byteAt s p) ≡ false → stands
 unfolding item
 item-no s p e f = rw (front s p, e, f)
 
-gap-here : (s : List ℕ) (p : ℕ) → isSpace (byteAt s p) ≡ false → stands (47 ∷ 42 ∷ []) s p ≡ false → gapTo false s p ≡ endsAt p
+pub gap-here : (s : List ℕ) (p : ℕ) → isSpace (byteAt s p) ≡ false → stands (47 ∷ 42 ∷ []) s p ≡ false → gapTo false s p ≡ endsAt p
 gap-here s p e f =
     let is : endsAt p ≡ placed p (item false (drop p s)) = sym (ap (placed p) (item-no s p e f)) in
     sym (gap-stop false s p is refl)

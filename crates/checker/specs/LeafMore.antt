@@ -8,11 +8,13 @@ use lib.ListN.{getD}
 use lib.Dec.{eqb, ltb}
 use Rattle.lexis.specs.declared.string.Run.{Run}
 use Rattle.lexis.specs.Bytes.{stands}
+use Rattle.lexis.specs.declared.trivia.Stop.{Stop}
+use Rattle.lexis.specs.Trivia.{Stopped}
 use Rattle.lexis.specs.String.{textAt, modeOf}
 use Rattle.grammar.specs.declared.shape.Child.{Child}
 use Rattle.grammar.specs.declared.moves.Went.{Went}
 use Rattle.grammar.specs.Moves.{Under, Step, to, place, keysOf, Move, walk}
-use Rattle.grammar.specs.Said.{ChildOf, went}
+use Rattle.grammar.specs.Said.{ChildOf, went, Moved}
 use Rattle.checker.specs.declared.row.Row.{Row}
 use Rattle.checker.specs.declared.text.Used.{Used}
 use Rattle.checker.specs.Rows.{rowAt}
@@ -82,6 +84,17 @@ SignBy s p r = OneBy s (ownMove 2) (ownMove 3) p r
 -- behind an item that ends at p: to the next one, or past the `}`
 abbrev pub AfterBy : List ℕ → ℕ → Went → Type 0
 AfterBy s p r = OneBy s (ownMove 4) (ownMove 5) p r
+
+-- behind the same-line space from p on no `}` stands but what ends an item, and q is behind that
+pub record EndedTo (s : List ℕ) (p q : ℕ) : Type 0 where
+  pub gap : Went
+  pub moved : Moved s p false gap
+  pub made : gap .kind ≡ 0
+  pub opened : stands (125 ∷ []) s (gap .at) ≡ false
+  pub stop : Stop
+  pub stopped : Stopped s (gap .at) stop
+  pub ends : stop .how ≡ 1
+  pub at : stop .at ≡ q
 
 -- ---- rows
 

@@ -17,7 +17,7 @@ ghost use mathlib.Core.List.{[], _∷_};
 ghost use Rattle.grammar.specs.Moves.{then, skip, opening, stopping};
 ghost use Rattle.checker.specs.Program.{ownMove};
 ghost use Rattle.checker.specs.Leaf.{GoneAt};
-ghost use Rattle.checker.specs.LeafMore.{Past, Comes, Goes, SignBy, AfterBy};
+ghost use Rattle.checker.specs.LeafMore.{Past, Comes, Goes, SignBy, AfterBy, EndedTo};
 
 // Past a token from p to e, which is p where it does not stand.
 fn past(p: usize, e: usize) -> Went
@@ -134,10 +134,28 @@ pub fn closing(s: &[u8], p: usize) -> Went
     past(w.at, mark_end(s, w.at, 125))
 }
 
-// Behind an item that ends at p: kind 0 for the next item, 1 for past the `}`, 2 for neither.
+// Behind what ends an item at p, from q on: kind 0 for the next item, 1 for past the `}`, 2 for neither.
+fn over(s: &[u8], p: usize, q: usize) -> Went
+    requires { ⌜ EndedTo (now s) p q ⌝ }
+    ensures { λ r. ⌜ AfterBy (now (s .entry)) p r ⌝ }
+{
+    let w = space(s, q, true);
+    if w.kind != 0 {
+        return refused(2, p);
+    }
+    if one_at(s, w.at, 125) {
+        return refused(1, w.at + 1);
+    }
+    w
+}
+
+// The same behind an item that ends at p: most of them end where their line does.
 pub fn after(s: &[u8], p: usize) -> Went
     ensures { λ r. ⌜ AfterBy (now (s .entry)) p r ⌝ }
 {
+    if one_at(s, p, 10) {
+        return over(s, p, p + 1);
+    }
     let g = space(s, p, false);
     let at = g.at;
     if g.kind != 0 {
@@ -150,14 +168,7 @@ pub fn after(s: &[u8], p: usize) -> Went
     if x.how != Stop::END {
         return refused(2, p);
     }
-    let w = space(s, x.at, true);
-    if w.kind != 0 {
-        return refused(2, p);
-    }
-    if one_at(s, w.at, 125) {
-        return refused(1, w.at + 1);
-    }
-    w
+    over(s, p, x.at)
 }
 
 // The move with the number a from p; kind 0 where it can be made.
