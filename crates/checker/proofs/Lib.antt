@@ -14,6 +14,8 @@ mod Enclosures
 mod Onwards
 mod Traversals
 mod Conditionals
+mod Elements
+mod Calls
 mod Layings
 mod Strands
 mod TextTurns

@@ -8,12 +8,14 @@ ghost use Rattle.checker.specs.Check.{Rooted, Ready, Walking, Checks};
 
 mod bare;
 mod bracket;
+mod call;
 mod conditional;
 mod direct;
 mod family;
 mod kinds;
 mod lay;
 mod layout;
+mod list;
 mod lone;
 mod moves;
 mod node;
