@@ -5,13 +5,15 @@ use mathlib.Core.List.{List, [], _∷_}
 use mathlib.Core.Bool.{Bool, true, false, cond, _&&_}
 use mathlib.Core.Option.{Option, none, some}
 use native.Mathlib.Omega.{arith}
+use lib.ListN.{length}
 use lib.Dec.{eqb}
 use borrow.Author.Tests.{eqb-true, eqb-false, eq-eqb, ne-eqb}
 use Rattle.lexis.specs.Bytes.{byteAt, stands, Ran}
 use Rattle.lexis.specs.Operator.{markTo}
+use Rattle.lexis.specs.Word.{isWord, wordTo, forTo}
 use Rattle.lexis.specs.RunLaws.{stands-one, stands-cons}
 use Rattle.grammar.specs.declared.moves.Went.{Went}
-use Rattle.grammar.specs.Moves.{Under, Step, to, no, then, place, Atom, gap, mark, opens, any, here, skip, parts, isPart, unless, comma, call, refused, marks, opening, atom, Move, walk}
+use Rattle.grammar.specs.Moves.{Under, Step, to, no, then, place, Atom, gap, mark, opens, any, here, skip, when, unexpected, token, word, ahead, for, parts, isPart, unless, comma, call, refused, marks, opening, atom, Move, walk}
 use Rattle.grammar.specs.Said.{Moved}
 use Rattle.checker.proofs.Goings.{unexpected-none, then-none, past-none, past-some, mark-comes, level-none, level-some}
 
@@ -30,6 +32,19 @@ marked c cs h n = mark-comes (c ∷ cs) [] (omega arith) h (past-some n refl) .g
 
 unmarked : {s : List ℕ} (c : ℕ) (cs : List ℕ) {p e : ℕ} → Ran s p (markTo (c ∷ cs) [] s p) e → e ≡ p → place (marks s (c ∷ cs) [] p) ≡ none
 unmarked c cs h z = mark-comes (c ∷ cs) [] (omega arith) h (past-none z refl) .bad (λ y. omega (arith, y))
+
+-- a word, by where it ends
+worded : (s : List ℕ) (b : Bool) (n : ℕ) {p e : ℕ} → e ≡ cond b (p + n) p → ¬ (e ≡ p) → when b (to (p + n)) (unexpected s p) ≡ to e
+worded s true n h z = ap to (sym h)
+worded s false n h z = absurd (z h)
+
+before : (s : List ℕ) (b : Bool) (n : ℕ) {p e : ℕ} → e ≡ cond b (p + n) p → ¬ (e ≡ p) → when b (to p) (unexpected s p) ≡ to p
+before s true n h z = refl
+before s false n h z = absurd (z h)
+
+unworded : (s : List ℕ) (b : Bool) (n q : ℕ) {p e : ℕ} → 1 ≤ n → e ≡ cond b (p + n) p → e ≡ p → place (when b (to q) (unexpected s p)) ≡ none
+unworded s true n q l h z = absurd (omega (arith, l, h, z))
+unworded s false n q {p} l h z = unexpected-none s p
 
 pub to-end : {s : List ℕ} {b : Under} {σ p : ℕ} → To s b σ [] p p
 unfolding walk
@@ -171,6 +186,34 @@ module _ {s : List ℕ} {b : Under} {σ p : ℕ} {m : Move} where
       never : (x : Step) → place (refused x) ≡ none
       never (to q) = refl
       never (no k q) = refl
+
+  -- `for`
+  module _ {e : ℕ} (h : Ran s p (forTo s p) e) where
+    pub to-for : {q : ℕ} → ¬ (e ≡ p) → To s b σ m e q → To s b σ (for ∷ m) p q
+    unfolding atom
+    to-for n x = on for (ap (token s p) (sym (h .is)) ∙ rw (ne-eqb e p n)) x
+
+    pub not-for : e ≡ p → Not s b σ (for ∷ m) p
+    unfolding atom
+    not-for z = stuck for (ap (λ (o : ℕ). place (token s p o)) (sym (h .is)) ∙ rw (eq-eqb e p z) (unexpected-none s p))
+
+  -- a word; and one that it stays before
+  module _ {c : ℕ} {cs : List ℕ} {e : ℕ} (h : Ran s p (wordTo (c ∷ cs) s p) e) where
+    pub to-word : {q : ℕ} → ¬ (e ≡ p) → To s b σ m e q → To s b σ (word (c ∷ cs) ∷ m) p q
+    unfolding atom
+    to-word n x = on (word (c ∷ cs)) (worded s (isWord (c ∷ cs) s p) (length (c ∷ cs)) (h .is) n) x
+
+    pub not-word : e ≡ p → Not s b σ (word (c ∷ cs) ∷ m) p
+    unfolding atom
+    not-word z = stuck (word (c ∷ cs)) (unworded s (isWord (c ∷ cs) s p) (length (c ∷ cs)) (p + length (c ∷ cs)) (omega arith) (h .is) z)
+
+    pub to-ahead : {q : ℕ} → ¬ (e ≡ p) → To s b σ m p q → To s b σ (ahead (c ∷ cs) ∷ m) p q
+    unfolding atom
+    to-ahead n x = on (ahead (c ∷ cs)) (before s (isWord (c ∷ cs) s p) (length (c ∷ cs)) (h .is) n) x
+
+    pub not-ahead : e ≡ p → Not s b σ (ahead (c ∷ cs) ∷ m) p
+    unfolding atom
+    not-ahead z = stuck (ahead (c ∷ cs)) (unworded s (isWord (c ∷ cs) s p) (length (c ∷ cs)) p (omega arith) (h .is) z)
 
   -- nothing behind it can be made
   pub blocked : (a : Atom) → ((q : ℕ) → Not s b σ m q) → Not s b σ (a ∷ m) p

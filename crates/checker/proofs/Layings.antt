@@ -5,7 +5,7 @@ use mathlib.Core.Bool.{Bool}
 use mathlib.Core.List.{List, [], _∷_}
 use lib.Dec.{eqb}
 use Rattle.engine.specs.Layout.{move}
-use Rattle.grammar.specs.Layouts.{Layout, layouts, layoutOf, interpolationLay, traversalLay, conditionalLay, callLay, opening}
+use Rattle.grammar.specs.Layouts.{Layout, layouts, layoutOf, interpolationLay, traversalLay, conditionalLay, callLay, listForLay, filtersLay, opening}
 use Rattle.checker.specs.Rows.{rowAt}
 use Rattle.checker.specs.Lay.{LaidBy}
 use Rattle.checker.specs.Rest.{RestBy, enclosedLay}
@@ -40,3 +40,11 @@ module _ {s t : List ℕ} {i v : ℕ} {m D D′ : List ℕ} {j p : ℕ} {r : Boo
   pub call-laid : (rowAt t i) .kind ≡ 16 → RestBy s t i v m D D′ callLay j p r → LaidBy s t i m D D′ j p (v / 2) (eqb (v % 2) 1) r
   unfolding layouts
   call-laid is h = rest-laid s t i v m (ap layoutOf (sym is)) h
+
+  pub list-for-laid : (rowAt t i) .kind ≡ 18 → RestBy s t i v m D D′ listForLay j p r → LaidBy s t i m D D′ j p (v / 2) (eqb (v % 2) 1) r
+  unfolding layouts
+  list-for-laid is h = rest-laid s t i v m (ap layoutOf (sym is)) h
+
+  pub condition-laid : (rowAt t i) .kind ≡ 20 → RestBy s t i v m D D′ filtersLay j p r → LaidBy s t i m D D′ j p (v / 2) (eqb (v % 2) 1) r
+  unfolding layouts
+  condition-laid is h = rest-laid s t i v m (ap layoutOf (sym is)) h

@@ -16,6 +16,7 @@ mod Traversals
 mod Conditionals
 mod Elements
 mod Calls
+mod ListFors
 mod Layings
 mod Strands
 mod TextTurns

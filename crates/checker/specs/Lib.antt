@@ -9,6 +9,7 @@ pub mod Lay
 pub mod Child
 pub mod Rest
 pub mod Elements
+pub mod ListFor
 pub mod Token
 pub mod Texts
 pub mod Node

@@ -2,9 +2,11 @@
 use crate::bracket::enclosed;
 use crate::bracket::interpolation;
 use crate::call::call;
+use crate::condition::condition;
 use crate::conditional::conditional;
 use crate::lay::lay;
 use crate::list::listed;
+use crate::list_for::list_for;
 use crate::traversal::traversal;
 use grammar::kinds::Kind;
 ghost use mathlib.Core.Path.{_≡_};
@@ -43,6 +45,12 @@ pub fn layout(
     }
     if kind == Kind::CALL {
         return call(s, table, i, marks, depths, j, p, own, lines);
+    }
+    if kind == Kind::CONDITION {
+        return condition(s, table, i, marks, depths, j, p, own);
+    }
+    if kind == Kind::LIST_FOR {
+        return list_for(s, table, i, marks, depths, j, p, own);
     }
     if kind == Kind::PARENTHESES {
         return enclosed(s, table, i, marks, depths, j, p, own, 40, 41);
