@@ -15,6 +15,9 @@ mod Enclosures
 mod Onwards
 mod Traversals
 mod Conditionals
+mod Elements
+mod Calls
+mod ListFors
 mod Layings
 mod Strands
 mod TextTurns

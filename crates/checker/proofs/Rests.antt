@@ -79,7 +79,7 @@ module _ (s t : List ℕ) (i v : ℕ) (m : List ℕ) where
       (λ ks rs bs o. let (y, f, u) = over-move (hcl s) (Both s) o in subst (λ (z : ℕ). Over s t i (v / 2) (eqb (v % 2) 1) ks l z rs bs) (some-is (sym f ∙ g .is)) u) h
 
   -- a move that comes to the same
-  pub rest-swap : {D D′ : List ℕ} {l : Layout} {j p : ℕ} {x y : Move} {r : Bool} → place (walk s att start x p) ≡ place (walk s att start y p) → Rest D D′ (move x l) j p r → Rest D D′ (move y l) j p r
+  pub rest-swap : {D D′ : List ℕ} {l : Layout} {j p q : ℕ} {x y : Move} {r : Bool} → place (walk s att start x p) ≡ place (walk s att start y q) → Rest D D′ (move x l) j p r → Rest D D′ (move y l) j q r
   rest-swap e h =
       same-kids (λ ks rs bs o. let (q, f, u) = over-move (hcl s) (Both s) o in rmove q (sym e ∙ f) u)
       (λ ks rs bs o. let (q, f, u) = over-move (hcl s) (Both s) o in rmove q (e ∙ f) u) h

@@ -8,6 +8,8 @@ pub mod Lone
 pub mod Lay
 pub mod Child
 pub mod Rest
+pub mod Elements
+pub mod ListFor
 pub mod Token
 pub mod Texts
 pub mod Node

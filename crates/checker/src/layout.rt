@@ -1,8 +1,12 @@
 // The layout of a kind: with no program, where there is code for it.
 use crate::bracket::enclosed;
 use crate::bracket::interpolation;
+use crate::call::call;
+use crate::condition::condition;
 use crate::conditional::conditional;
 use crate::lay::lay;
+use crate::list::listed;
+use crate::list_for::list_for;
 use crate::traversal::traversal;
 use grammar::kinds::Kind;
 ghost use mathlib.Core.Path.{_≡_};
@@ -35,6 +39,18 @@ pub fn layout(
     }
     if kind == Kind::INTERPOLATION {
         return interpolation(s, table, i, marks, depths, j, p, own);
+    }
+    if kind == Kind::ARRAY {
+        return listed(s, table, i, marks, depths, j, p, own, 91, 93);
+    }
+    if kind == Kind::CALL {
+        return call(s, table, i, marks, depths, j, p, own, lines);
+    }
+    if kind == Kind::CONDITION {
+        return condition(s, table, i, marks, depths, j, p, own);
+    }
+    if kind == Kind::LIST_FOR {
+        return list_for(s, table, i, marks, depths, j, p, own);
     }
     if kind == Kind::PARENTHESES {
         return enclosed(s, table, i, marks, depths, j, p, own, 40, 41);

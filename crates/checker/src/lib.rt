@@ -8,12 +8,16 @@ ghost use Rattle.checker.specs.Check.{Rooted, Ready, Walking, Checks};
 
 mod bare;
 mod bracket;
+mod call;
+mod condition;
 mod conditional;
 mod direct;
 mod family;
 mod kinds;
 mod lay;
 mod layout;
+mod list;
+mod list_for;
 mod lone;
 mod moves;
 mod node;
