@@ -81,5 +81,5 @@ pub fn growth(
     if kind == Kind::CONDITIONAL {
         return conditional(s, table, i, marks, depths, j, p, own, lines);
     }
-    lay(s, table, i, marks, depths, j, p, left, lines)
+    layout(s, table, i, kind, marks, depths, j, p, own, left, lines)
 }

@@ -1,8 +1,6 @@
 use mathlib.Core.Path.{refl}
 use native.Mathlib.Omega.{arith}
-use Rattle.checker.proofs.Nodes.{laid-as}
 use Rattle.checker.proofs.Layings.{traversal-laid, conditional-laid}
-use borrow.Author.Needs.{needs}
 use Rattle.checker.proofs.layout.growth.Statement.{statement}
 use Rattle.checker.proofs.layout.growth.Tie as tie
 
@@ -33,14 +31,14 @@ same-length-2 c = (c .before .before .conditional .ensures .long)
 returns-2 : tie.Need-returns-2
 returns-2 c = conditional-laid (c .before .before .before .before .if2 .taken) (c .before .before .conditional .ensures)
 
-lay-requires : tie.Need-lay-requires
-lay-requires c κs = ((c .before .before .before .before .before .before .before .before .pre .0), (c .before .before .before .before .before .before .before .before .pre .1), (c .before .before .before .before .before .before .before .before .pre .2), (c .before .before .before .before .before .before .before .before .pre .3), (c .before .before .before .before .before .before .before .before .pre .4))
+layout-requires : tie.Need-layout-requires
+layout-requires c κs = ((c .before .before .before .before .before .before .before .before .pre .0), refl, (c .before .before .before .before .before .before .before .before .pre .2), (c .before .before .before .before .before .before .before .before .pre .3), (c .before .before .before .before .before .before .before .before .pre .4), (c .before .before .before .before .before .before .before .before .pre .5), (c .before .before .before .before .before .before .before .before .pre .1), (c .before .before .before .before .before .before .before .before .pre .6))
 
 same-length-3 : tie.Need-same-length-3
-same-length-3 c = (c .before .before .lay .ensures .long)
+same-length-3 c = (c .before .before .layout .ensures .long)
 
 returns-3 : tie.Need-returns-3
-returns-3 c = laid-as refl (c .before .before .before .before .before .before .before .before .before .before .before .pre .5) (c .before .before .before .before .before .before .before .before .before .before .before .pre .6) (c .before .before .lay .ensures)
+returns-3 c = (c .before .before .layout .ensures)
 
 pub growth-spec : {M : Type 1} → statement M
 growth-spec =
@@ -55,6 +53,6 @@ growth-spec =
     conditional-requires
     same-length-2
     returns-2
-    lay-requires
+    layout-requires
     same-length-3
     returns-3)
