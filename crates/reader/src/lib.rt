@@ -78,7 +78,7 @@ fn once(
 }
 
 // A key takes four numbers, and a source has one in three bytes at most. It has room for a record in two bytes and for a byte of text in four. The first content is never
-// looked at: it is 1, as the compiler fills such arrays with wide stores, and clears others byte by byte.
+// looked at: it is 1, as the compiler fills arrays of such numbers itself, with wide stores; those of bytes are zeros, which the C library clears.
 fn read_1k(source: &[u8], nodes: &mut [u16], text: &mut [u8]) -> Answer
     requires { ⌜ Clean 1024 (now source) ⌝ }
     ensures { λ r. ⌜ Reads (now (source .entry)) (now (nodes .entry)) (now (nodes .exit)) (now (text .entry)) (now (text .exit)) r ⌝ }
