@@ -7,9 +7,10 @@ use native.Mathlib.Numerals.{add-one}
 use native.Mathlib.Nat.{add-zero}
 use native.Mathlib.Omega.{arith}
 use lib.ListN.{length, getD, drop}
-use lib.Dec.{leb}
+use lib.Dec.{eqb, leb}
+use borrow.Author.Tests.{ne-eqb, le-leb, lt-leb}
 use lib.Seq.{drop-cons}
-use Rattle.lexis.specs.Bytes.{Byte, isWithin, isRest, run, runTo, byteAt, stands}
+use Rattle.lexis.specs.Bytes.{Byte, isWithin, isStart, isRest, run, runTo, byteAt, stands}
 use Rattle.lexis.specs.RunLaws.{front, empty, run-stop, stands-none, stands-on, stands-off}
 
 -- a test of a byte that was read is a test of the source
@@ -68,3 +69,25 @@ or-true false = refl
 -- a small letter is an identifier character
 pub small-rest : (b : ℕ) → isWithin 97 122 b ≡ true → isRest b ≡ true
 small-rest b e = rw (e, or-true (leb 65 b && leb b 90))
+
+-- identifier characters, by where a byte lies: below `-`, up to the digits, or behind them
+or-none : (x : Bool) → (x || false) ≡ x
+or-none true = refl
+or-none false = refl
+
+and-all : (x : Bool) → (x && true) ≡ x
+and-all true = refl
+and-all false = refl
+
+module _ (b : ℕ) where
+  pub rest-below : b < 45 → false ≡ isRest b
+  rest-below h = sym (rw (lt-leb 65 b (omega arith), lt-leb 97 b (omega arith), ne-eqb b 95 (λ z. omega arith), lt-leb 48 b (omega arith), ne-eqb b 45 (λ z. omega arith)))
+
+  pub rest-dash : b ≡ 45 → eqb b 45 ≡ isRest b
+  rest-dash e = rw e
+
+  pub rest-digit : b < 58 → (b ≡ 45 → ⊥) → leb 48 b ≡ isRest b
+  rest-digit h n = sym (rw (lt-leb 65 b (omega arith), lt-leb 97 b (omega arith), ne-eqb b 95 (λ z. omega arith), le-leb b 57 (omega arith), ne-eqb b 45 n) (or-none (leb 48 b && true) ∙ and-all (leb 48 b)))
+
+  pub rest-start : 58 ≤ b → isStart b ≡ isRest b
+  rest-start h = sym (rw (le-leb 48 b (omega arith), lt-leb b 57 (omega arith), ne-eqb b 45 (λ z. omega arith)) (or-none (isStart b || false) ∙ or-none (isStart b)))

@@ -50,11 +50,17 @@ pub fn is_start(b: u16) -> bool
     is_letter(b) || b == 95
 }
 
-// Whether an identifier can go on with b.
+// Whether an identifier can go on with b. What ends one is mostly space or a mark below the digits.
 pub fn is_rest(b: u16) -> bool
     ensures { λ r. ⌜ r ≡ isRest b ⌝ }
 {
-    is_start(b) || (is_digit(b) || b == 45)
+    if b < 45 {
+        return false;
+    }
+    if b < 58 {
+        return b == 45 || 48 <= b;
+    }
+    is_start(b)
 }
 
 // Whether b is the first byte of a scalar of 128 or more.
