@@ -11,16 +11,16 @@ use lib.ListN.{length, take, drop, length-drop, length-append}
 use lib.Dec.{ltb, eqb}
 use lib.Seq.{getD-drop, drop-drop, drop-cons, take-add}
 use borrow.Author.Tests.{ne-eqb, lt-ltb, le-ltb, eqb-true, ltb-true, ltb-false}
-use Rattle.lexis.specs.Bytes.{byteAt, Byte}
+use Rattle.lexis.specs.Bytes.{byteAt, runTo, Byte, Ran}
 use Rattle.lexis.specs.Heredoc.{closing, freshAt, part, lineAs, lineAt}
 use Rattle.lexis.specs.String.{Mode, quoted, heredoc, Unit, is, not, plain, marker, unit, lineOr, unitIn, plainIn, Text, ended, added, unitElse, textAfter, textAt, modeOf, packed, pieceOf, runOf, RunHere, UnitHere}
 use Rattle.lexis.specs.declared.heredoc.Line.{Line}
 use Rattle.lexis.specs.declared.heredoc.Line.the-variants as line
 use Rattle.lexis.specs.declared.string.Why.{Why}
-use Rattle.lexis.specs.declared.string.Why.the-variants.{Interpolation, Directive, Closing, Foreign, End}
+use Rattle.lexis.specs.declared.string.Why.the-variants.{Quote, Interpolation, Directive, Closing, Foreign, End}
 use Rattle.lexis.specs.declared.string.Piece.{Piece}
 use Rattle.lexis.specs.declared.string.Run.{Run}
-use Rattle.lexis.specs.RunLaws.{next, empty, clash, and-right}
+use Rattle.lexis.specs.RunLaws.{next, empty, clash, and-right, inside, run-on, run-stop}
 use Rattle.lexis.proofs.Lines.{fresh-behind}
 use Rattle.lexis.proofs.Spelling.{pack-one, pack-two}
 use Rattle.lexis.proofs.Units.{Fine, Sound, unit-sound, Bytewise}
@@ -279,60 +279,113 @@ module _ {m : Mode} {s : List ℕ} {p i n : ℕ} {f : Bool} (g : Going m s p i n
   going-more {u} h e = more-by (unitIn m f (drop i s)) refl (in-sound m f (drop i s)) u (h .is) e
 
 -- a byte that is text as it stands
-module _ (q f : Bool) (b : ℕ) (k : plainIn q f b ≡ true) where
-  plain-no : (n : ℕ) → plainIn q f n ≡ false → b ≡ n → ⊥
-  plain-no n e z = clash (sym k ∙ ap (plainIn q f) z ∙ e)
-
-  pub plain-inside : {s : List ℕ} {i : ℕ} → Byte s i b → i < length s
-  plain-inside h = omega (arith, h .here, h .low, plain-no 256 refl)
+plain-no : (q : Bool) (b : ℕ) → plainIn q b ≡ true → (n : ℕ) → plainIn q n ≡ false → b ≡ n → ⊥
+plain-no q b k n e z = clash (sym k ∙ ap (plainIn q) z ∙ e)
 
 -- what the code says of a byte
-pub plain-none : (q f : Bool) {b : ℕ} (n : ℕ) → plainIn q f n ≡ false → b ≡ n → false ≡ plainIn q f b
-plain-none q f n e z = sym (ap (plainIn q f) z ∙ e)
+plain-none : (q : Bool) {b : ℕ} (n : ℕ) → plainIn q n ≡ false → b ≡ n → false ≡ plainIn q b
+plain-none q n e z = sym (ap (plainIn q) z ∙ e)
 
-pub plain-marks : (q f : Bool) {b : ℕ} → 35 < b → b ≤ 37 → false ≡ plainIn q f b
-plain-marks q f {b} h l = go (decLt b 37)
+pub plain-marks : (q : Bool) {b : ℕ} → 35 < b → b ≤ 37 → false ≡ plainIn q b
+plain-marks q {b} h l = go (decLt b 37)
   where
-    go : Dec (b < 37) → false ≡ plainIn q f b
-    go (yes k) = plain-none q f {b = b} 36 refl (omega arith)
-    go (no k) = plain-none q f {b = b} 37 refl (omega arith)
+    go : Dec (b < 37) → false ≡ plainIn q b
+    go (yes k) = plain-none q {b = b} 36 refl (omega arith)
+    go (no k) = plain-none q {b = b} 37 refl (omega arith)
 
-module _ (q f : Bool) {b : ℕ} (m : b ≡ 36 → ⊥) (n : b ≡ 37 → ⊥) (o : b ≡ 256 → ⊥) where
-  pub plain-heredoc : q ≡ false → bool.not f ≡ plainIn q f b
-  plain-heredoc e = sym (rw (ne-eqb b 36 m, ne-eqb b 37 n, ne-eqb b 256 o, e))
+not-cond : (x : Bool) → cond x false true ≡ bool.not x
+not-cond true = refl
+not-cond false = refl
 
-  pub plain-over : q ≡ true → (b ≡ 34 → ⊥) → (b ≡ 92 → ⊥) → true ≡ plainIn q f b
-  plain-over e h g = sym (rw (ne-eqb b 36 m, ne-eqb b 37 n, ne-eqb b 256 o, ne-eqb b 34 h, ne-eqb b 92 g, e))
+pub plain-over : (q : Bool) {b : ℕ} → 92 < b → bool.not (eqb b 256) ≡ plainIn q b
+plain-over true {b} h =
+    sym
+    (rw (ne-eqb b 36 (λ z. omega arith), ne-eqb b 37 (λ z. omega arith), ne-eqb b 34 (λ z. omega arith), ne-eqb b 92 (λ z. omega arith)) (not-cond (eqb b 256)))
+plain-over false {b} h =
+    sym (rw (ne-eqb b 36 (λ z. omega arith), ne-eqb b 37 (λ z. omega arith), ne-eqb b 10 (λ z. omega arith)) (not-cond (eqb b 256)))
 
-  pub plain-high : q ≡ true → (b ≡ 34 → ⊥) → bool.not (eqb b 92) ≡ plainIn q f b
+module _ (q : Bool) {b : ℕ} (m : b ≡ 36 → ⊥) (n : b ≡ 37 → ⊥) (o : b ≡ 256 → ⊥) where
+  pub plain-line : q ≡ false → bool.not (eqb b 10) ≡ plainIn q b
+  plain-line e = sym (rw (ne-eqb b 36 m, ne-eqb b 37 n, ne-eqb b 256 o, e))
+
+  pub plain-heredoc : q ≡ false → (b ≡ 10 → ⊥) → true ≡ plainIn q b
+  plain-heredoc e h = sym (rw (ne-eqb b 36 m, ne-eqb b 37 n, ne-eqb b 256 o, ne-eqb b 10 h, e))
+
+  pub plain-high : q ≡ true → (b ≡ 34 → ⊥) → bool.not (eqb b 92) ≡ plainIn q b
   plain-high e h = sym (rw (ne-eqb b 36 m, ne-eqb b 37 n, ne-eqb b 256 o, ne-eqb b 34 h, e))
 
-  pub plain-low : q ≡ true → (b ≡ 92 → ⊥) → bool.not (eqb b 34) ≡ plainIn q f b
+  pub plain-low : q ≡ true → (b ≡ 92 → ⊥) → bool.not (eqb b 34) ≡ plainIn q b
   plain-low e h = sym (rw (ne-eqb b 36 m, ne-eqb b 37 n, ne-eqb b 256 o, ne-eqb b 92 h, e) (and-true (bool.not (eqb b 34))))
 
-plain-fresh : (b : ℕ) → plainIn false true b ≡ false
-plain-fresh b = go (eqb b 36 || eqb b 37 || eqb b 256)
-  where
-    go : (x : Bool) → cond x false false ≡ false
-    go true = refl
-    go false = refl
+-- bytes that are text as they stand, in quoted text or where no line starts: each is a unit, and no line starts behind it
+module _ (s : List ℕ) (p d e : ℕ) (q f : Bool) (o : q ≡ false → f ≡ false) where
+  plain-unit : (i : ℕ) → i < length s → plainIn q (byteAt s i) ≡ true → unitIn (modeOf s q d e) f (drop i s) ≡ plain (byteAt s i)
+  unfolding unit
+  plain-unit i h k = go q f o k
+    where
+      go : (q f : Bool) → (q ≡ false → f ≡ false) → plainIn q (byteAt s i) ≡ true → unitIn (modeOf s q d e) f (drop i s) ≡ plain (byteAt s i)
+      go true f o k =
+          rw (
+            next s i h,
+            ne-eqb (byteAt s i) 36 (plain-no true (byteAt s i) k 36 refl),
+            ne-eqb (byteAt s i) 37 (plain-no true (byteAt s i) k 37 refl),
+            ne-eqb (byteAt s i) 34 (plain-no true (byteAt s i) k 34 refl),
+            ne-eqb (byteAt s i) 92 (plain-no true (byteAt s i) k 92 refl),
+          )
+      go false false o k =
+          rw (next s i h, ne-eqb (byteAt s i) 36 (plain-no false (byteAt s i) k 36 refl), ne-eqb (byteAt s i) 37 (plain-no false (byteAt s i) k 37 refl))
+      go false true o k = clash (o refl)
 
-plain-unit : (q f : Bool) (s : List ℕ) (i d e : ℕ) → i < length s → plainIn q f (byteAt s i) ≡ true → unitIn (modeOf s q d e) f (drop i s) ≡ plain (byteAt s i)
+  fresh-kept : (b : ℕ) → plainIn q b ≡ true → (l : List ℕ) → unitIn (modeOf s q d e) f l ≡ unitIn (modeOf s q d e) (eqb b 10) l
+  fresh-kept b k l = go q o k
+    where
+      go : (q : Bool) → (q ≡ false → f ≡ false) → plainIn q b ≡ true → unitIn (modeOf s q d e) f l ≡ unitIn (modeOf s q d e) (eqb b 10) l
+      go true o k = fresh-quoted f (eqb b 10) l
+      go false o k = ap (λ (x : Bool). unitIn (modeOf s false d e) x l) (o refl ∙ sym (ne-eqb b 10 (plain-no false b k 10 refl)))
+
+  going-plain : (i n : ℕ) → Going (modeOf s q d e) s p i n f → i < length s → plainIn q (byteAt s i) ≡ true → Going (modeOf s q d e) s p (i + 1) (n + 1) f
+  going-plain i n g h k =
+      let v = plain-unit i h k in
+      let w = more-by g (plain (byteAt s i)) v (subst (Sound (drop i s)) v (in-sound (modeOf s q d e) f (drop i s))) (pieceOf (plain (byteAt s i))) refl (λ z. omega arith) in
+      let x = subst (λ (x : ℕ). Going (modeOf s q d e) s p (i + 1) (n + 1) (eqb x 10)) (sym (pack-one (byteAt s i))) w in
+      record {
+        low = x .low;
+        high = x .high;
+        short = x .short;
+        fits = λ l. fresh-kept (byteAt s i) k l ∙ x .fits l;
+        ends = x .ends;
+        counts = x .counts;
+        whys = x .whys;
+      }
+
+  going-by : (c i n : ℕ) → length s - i < c → Going (modeOf s q d e) s p i n f → Going (modeOf s q d e) s p (runTo (plainIn q) s i) (n + (runTo (plainIn q) s i - i)) f
+  going-by zero i n h g = absurd (omega arith)
+  going-by (suc c) i n h g = go (plainIn q (byteAt s i)) refl (going-by c)
+    where
+      go : (x : Bool) → plainIn q (byteAt s i) ≡ x
+          → ((i n : ℕ) → length s - i < c → Going (modeOf s q d e) s p i n f → Going (modeOf s q d e) s p (runTo (plainIn q) s i) (n + (runTo (plainIn q) s i - i)) f)
+          → Going (modeOf s q d e) s p (runTo (plainIn q) s i) (n + (runTo (plainIn q) s i - i)) f
+      go false k r =
+          let z : n ≡ n + (i - i) = omega arith in
+          subst (λ (j : ℕ). Going (modeOf s q d e) s p j (n + (j - i)) f) (sym (run-stop (plainIn q) s i k)) (subst (λ (j : ℕ). Going (modeOf s q d e) s p i j f) z g)
+      go true k r =
+          let l : i < length s = inside (plainIn q) s i refl k in
+          let w = r (i + 1) (n + 1) (omega arith) (going-plain i n g l k) in
+          let z : n + 1 + (runTo (plainIn q) s (i + 1) - (i + 1)) ≡ n + (runTo (plainIn q) s (i + 1) - i) = omega arith in
+          subst (λ (j : ℕ). Going (modeOf s q d e) s p j (n + (j - i)) f) (run-on (plainIn q) s i l k) (subst (λ (j : ℕ). Going (modeOf s q d e) s p (runTo (plainIn q) s (i + 1)) j f) z w)
+
+  pub going-run : {i n k j m : ℕ} → Going (modeOf s q d e) s p i n f → Ran s i (runTo (plainIn q) s i) k → j ≡ k → m ≡ n + (k - i) → Going (modeOf s q d e) s p j m f
+  going-run {i} {n} g h a b = rw (b, a, h .is) (going-by (suc (length s - i)) i n (omega arith) g)
+
+pub going-same : {m : Mode} {s : List ℕ} {p i n j k : ℕ} {f : Bool} → Going m s p i n f → j ≡ i → k ≡ n → Going m s p j k f
+going-same g a b = rw (a, b) g
+
+-- a quote ends quoted text
+pub going-quote : {s : List ℕ} {p i n b : ℕ} (d e : ℕ) {q f : Bool} → Going (modeOf s q d e) s p i n f → q ≡ true → Byte s i b → b ≡ 34
+    → RunHere (modeOf s q d e) s p (record { end = i; length = n; why = Quote; escaped = ltb n (i - p) })
 unfolding unit
-plain-unit true f s i d e h k =
-    rw (
-      next s i h,
-      ne-eqb (byteAt s i) 36 (plain-no true f (byteAt s i) k 36 refl),
-      ne-eqb (byteAt s i) 37 (plain-no true f (byteAt s i) k 37 refl),
-      ne-eqb (byteAt s i) 34 (plain-no true f (byteAt s i) k 34 refl),
-      ne-eqb (byteAt s i) 92 (plain-no true f (byteAt s i) k 92 refl),
-    )
-plain-unit false false s i d e h k =
-    rw (next s i h, ne-eqb (byteAt s i) 36 (plain-no false false (byteAt s i) k 36 refl), ne-eqb (byteAt s i) 37 (plain-no false false (byteAt s i) k 37 refl))
-plain-unit false true s i d e h k = clash (sym k ∙ plain-fresh (byteAt s i))
-
-pub going-plain : {s : List ℕ} {p i n b : ℕ} (d e : ℕ) (q f : Bool) → Going (modeOf s q d e) s p i n f → Byte s i b → plainIn q f b ≡ true → Going (modeOf s q d e) s p (i + 1) (n + 1) (eqb b 10)
-going-plain {s} {p} {i} {n} {b} d e q f g h k =
-    let v = plain-unit q f s i d e (plain-inside q f b k h) (subst (λ (x : ℕ). plainIn q f x ≡ true) (h .is) k) in
-    let w = more-by g (plain (byteAt s i)) v (subst (Sound (drop i s)) v (in-sound (modeOf s q d e) f (drop i s))) (pieceOf (plain (byteAt s i))) refl (λ z. omega arith) in
-    subst (λ (x : ℕ). Going (modeOf s q d e) s p (i + 1) (n + 1) (eqb x 10)) (sym (pack-one (byteAt s i)) ∙ sym (h .is)) w
+going-quote {s} {p} {i} {n} {b} d e {q} {f} g a h k =
+    let l : i < length s = omega (arith, h .here) in
+    let z : byteAt s i ≡ 34 = sym (h .is) ∙ k in
+    let v : unitIn (modeOf s q d e) f (drop i s) ≡ not Quote = in-quoted s i q f d e l a ∙ rw (next s i l, z) in
+    stop-by g (not Quote) v tt (pieceOf (not Quote)) refl refl

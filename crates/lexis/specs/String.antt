@@ -98,9 +98,9 @@ unitIn quoted f (b ∷ s) = unit true (b ∷ s)
 unitIn (heredoc d) false (b ∷ s) = unit false (b ∷ s)
 unitIn (heredoc d) true (b ∷ s) = lineOr (closing d (b ∷ s)) (unit false (b ∷ s))
 
--- a byte b that is text as it stands: neither `$` nor `%`; in quoted text (q) neither a quote nor a backslash, and in a heredoc not at the start of a line (f)
-abbrev pub plainIn : Bool → Bool → ℕ → Bool
-plainIn q f b = cond (eqb b 36 || eqb b 37 || eqb b 256) false (cond q (bool.not (eqb b 34) && bool.not (eqb b 92)) (bool.not f))
+-- a byte b that is text as it stands: neither `$` nor `%`; in quoted text (q) neither a quote nor a backslash, and in a heredoc no LF, with which a line ends
+abbrev pub plainIn : Bool → ℕ → Bool
+plainIn q b = cond (eqb b 36 || eqb b 37 || eqb b 256) false (cond q (bool.not (eqb b 34) && bool.not (eqb b 92)) (bool.not (eqb b 10)))
 
 -- a run of units: its width in the source, why it ends, whether a unit was an escape or an escaped marker, and its unescaped text
 pub record Text : Type 0 where

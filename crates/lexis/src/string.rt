@@ -12,7 +12,7 @@ ghost use lib.ListN.{length, drop};
 ghost use lib.Seq.{paste};
 ghost use mathlib.Core.List.{[], _∷_};
 ghost use mathlib.Core.Bool.{true};
-ghost use Rattle.lexis.specs.Bytes.{byteAt};
+ghost use Rattle.lexis.specs.Bytes.{byteAt, runTo, Ran};
 ghost use Rattle.lexis.specs.Utf8.{isScalar};
 ghost use Rattle.lexis.specs.String.{pieceIs, pieceOf, is, not, scalarOf, scalar, escape, marker, unit, unitIn, plainIn, modeOf, textAt, Hex, UnitHere, RunHere, unpacked, Wrote};
 
@@ -245,22 +245,16 @@ fn unit_in(s: &[u8], p: usize, quoted: bool, fresh: bool, d: usize, e: usize) ->
     }
 }
 
-// Whether b is text as it stands; fresh: a line starts with it. Most bytes are, so a run asks this first, and most of them are letters, over the backslash.
-fn is_plain(b: u16, quoted: bool, fresh: bool) -> bool
-    ensures { λ r. ⌜ r ≡ plainIn quoted fresh b ⌝ }
+// Whether b is text as it stands and ends no line of a heredoc. Most bytes are such, and most of them are letters, over the backslash.
+fn is_plain(b: u16, quoted: bool) -> bool
+    ensures { λ r. ⌜ r ≡ plainIn quoted b ⌝ }
 {
     if 92 < b {
-        if b == NOTHING {
-            return false;
-        }
-        if quoted {
-            return true;
-        }
-        return !fresh;
+        return b != NOTHING;
     }
     if 37 < b {
         if !quoted {
-            return !fresh;
+            return true;
         }
         return b != 92;
     }
@@ -268,9 +262,23 @@ fn is_plain(b: u16, quoted: bool, fresh: bool) -> bool
         return false;
     }
     if !quoted {
-        return !fresh;
+        return b != 10;
     }
     b != 34
+}
+
+// Past the bytes from p on that are text as they stand. A run is mostly such bytes, so they have a loop of their own.
+fn plain_end(s: &[u8], p: usize, quoted: bool) -> usize
+    ensures { λ r. ⌜ Ran (now (s .entry)) p (runTo (plainIn quoted) (now (s .entry)) p) r ⌝ }
+{
+    let mut i = p;
+    loop {
+        let b = byte_at(s, i);
+        if !is_plain(b, quoted) {
+            return i;
+        }
+        i += 1;
+    }
 }
 
 // The longest run of literal text from p, in quoted text, or in a heredoc whose delimiter stands in the source from d to e.
@@ -281,18 +289,24 @@ pub fn run_at(s: &[u8], p: usize, quoted: bool, d: usize, e: usize) -> Run
     let mut n = 0;
     let mut fresh = starts_line(s, p);
     loop {
-        let b = byte_at(s, i);
-        if is_plain(b, quoted, fresh) {
-            i += 1;
-            n += 1;
-            fresh = b == 10;
-            continue;
+        if quoted || !fresh {
+            let k = plain_end(s, i, quoted);
+            n += k - i;
+            i = k;
+        }
+        // most quoted text ends here; what is unescaped is shorter than what it was
+        if quoted && byte_at(s, i) == 34 {
+            return Run {
+                end: i,
+                length: n,
+                why: Why::Quote,
+                escaped: n < i - p,
+            };
         }
         let u = unit_in(s, i, quoted, fresh, d, e);
         let w = u.width;
         if w == 0 {
             let why = u.why;
-            // what is unescaped is shorter than what it was
             return Run {
                 end: i,
                 length: n,
