@@ -33,7 +33,9 @@ END {
     print emulated ? "\nRatio: Go's instructions to the reader's. There are no times, since this machine emulates x86-64." : "\nRatio: the reader's MB/s to Go's."
     print "\n| Target | Wanted | Measured | |\n|---|---|--:|---|"
     if ("mixed-60000" in reader) {
-        target("times as fast as Go, mixed object", "at least 40", sprintf("%.1f", ratio("mixed-60000")), 40 <= ratio("mixed-60000"))
+        # a count says nothing of the clock, which this target is about
+        if (emulated) print "| times as fast as Go, mixed object | at least 40 | - | not timed |"
+        else target("times as fast as Go, mixed object", "at least 40", sprintf("%.1f", ratio("mixed-60000")), 40 <= ratio("mixed-60000"))
         most("instructions a byte, mixed object", 60, reader["mixed-60000"])
         most("instructions a byte, mixed object, checker", 40, checker["mixed-60000"])
     }
