@@ -42,5 +42,5 @@ func main() {
 	for ; time.Since(start) < 500*time.Millisecond; times++ {
 		once(source)
 	}
-	fmt.Printf("%.1f\n", float64(len(source)*times)/time.Since(start).Seconds()/1e6)
+	fmt.Printf("%.3f\n", float64(len(source)*times)/time.Since(start).Seconds()/1e6)
 }
