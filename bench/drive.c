@@ -52,7 +52,7 @@ int main(int words, char **word) {
     }
     double start = now(), end = start;
     long times = 0;
-    for (; end < start + 0.5; end = now(), times++) once();
+    for (; end < start + 0.25; end = now(), times++) once();
     printf("%.3f\n", (double)size * (double)times / (end - start) / 1e6);
     return 0;
 }

@@ -39,7 +39,7 @@ func main() {
 		return
 	}
 	start, times := time.Now(), 0
-	for ; time.Since(start) < 500*time.Millisecond; times++ {
+	for ; time.Since(start) < 250*time.Millisecond; times++ {
 		once(source)
 	}
 	fmt.Printf("%.3f\n", float64(len(source)*times)/time.Since(start).Seconds()/1e6)
