@@ -28,9 +28,10 @@ static void checkit(void) {
     }
 }
 
-static double now(void) {
+/* Seconds of the processor that this program has had: what others take of the machine is not in it. */
+static double spent(void) {
     struct timespec t;
-    clock_gettime(CLOCK_MONOTONIC, &t);
+    clock_gettime(CLOCK_PROCESS_CPUTIME_ID, &t);
     return (double)t.tv_sec + (double)t.tv_nsec * 1e-9;
 }
 
@@ -50,9 +51,11 @@ int main(int words, char **word) {
         for (long i = atol(word[3]); 0 < i; i--) once();
         return 0;
     }
-    double start = now(), end = start;
+    double start = spent(), end = start;
     long times = 0;
-    for (; end < start + 0.25; end = now(), times++) once();
+    /* the clock is looked at now and then, since a look costs something beside a short source */
+    for (; end < start + 0.25; end = spent())
+        for (int i = 0; i < 16; i++, times++) once();
     printf("%.3f\n", (double)size * (double)times / (end - start) / 1e6);
     return 0;
 }

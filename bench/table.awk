@@ -26,7 +26,7 @@ BEGIN {
 }
 
 END {
-    print "\nRatio: the reader's MB/s to Go's. Times are the best of ten runs."
+    print "\nRatio: the reader's MB/s to Go's. Times are the processor's, the best of ten runs."
     if (own) print "They are of " own ": the LLVM modules that the static libraries are made of, compiled for it at -O3, and Go built for it."
     else print "They are of x86-64: the static libraries, and Go built for it."
     print "\n| Target | Wanted | Measured | |\n|---|---|--:|---|"
