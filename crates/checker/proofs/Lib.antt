@@ -33,9 +33,11 @@ pub mod Tellings
 pub mod Strings
 mod Heads
 mod Singles
+mod Tolds
 mod TextHeads
 mod Growns
 mod Nodes
+mod Looks
 mod Texteds
 mod Tabled
 mod Walks

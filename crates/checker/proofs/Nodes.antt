@@ -29,7 +29,7 @@ use Rattle.checker.specs.Leaf.{kindsBy, FirstAt}
 use Rattle.checker.specs.Lay.{coded, depthsAt, LaidBy}
 use Rattle.checker.specs.Texts.{Sanes, Spelts, TextBy}
 use Rattle.checker.specs.declared.single.Look.{Look}
-use Rattle.checker.specs.Node.{Noding, Worded, RuleBy, Token, SingleBy, LeftAt, noLeft, LeftTo, NodeBy}
+use Rattle.checker.specs.Node.{Noding, Worded, RuleBy, SingleBy, LeftAt, noLeft, LeftTo, NodeBy}
 use Rattle.checker.proofs.Families.{family-none}
 
 -- ---- a left operand
@@ -74,10 +74,6 @@ module _ {s t : List ℕ} {i l : ℕ} {lines : Bool} where
   }
 
 -- ---- a piece
-
-nine-not : (k : ℕ) → Token k → ¬ (k ≡ 9)
-nine-not k (inl l) e = omega arith
-nine-not k (inr l) e = omega arith
 
 nil-map : (t js : List ℕ) → map (recAt t) js ≡ [] → js ≡ []
 nil-map t [] e = refl
@@ -155,9 +151,9 @@ module _ (s text t : List ℕ) (i : ℕ) (D : List ℕ) where
             h′ .no z (f .kids) (f .chain le) (subst (Sanes s text t (round s ((rowAt t i) .start))) same sane) wd ds (laid-of (map (recAt t) (f .kids)) ds (coded (getD D i 0)) n (subst (λ (y : List ℕ). Rule s (coded (getD D i 0)) (recAt t i) (map (recAt t) y) ds) same r));
       }
 
-  -- a token alone
-  pub node-token : (m : List ℕ) {own : ℕ} {lines : Bool} {x : Look} → (rowAt t i) .count ≡ 1 → own ≡ getD D i 0 → lines ≡ eqb (own % 2) 1 → SingleBy s t i lines x → x .sure ≡ true → NodeBy s text t i D D (x .yes)
-  node-token m {own} e o l h y = node-by (nine-not kind (h .token y)) (family-none t m i e) (λ z. omega (arith, z)) o (h .rule y own l text m D)
+  -- a row that one look tells
+  pub node-single : (m : List ℕ) {own : ℕ} {lines : Bool} {x : Look} → (rowAt t i) .count ≡ 1 → own ≡ getD D i 0 → lines ≡ eqb (own % 2) 1 → SingleBy s t i lines x → x .sure ≡ true → NodeBy s text t i D D (x .yes)
+  node-single m {own} e o l h y = node-by (h .other y) (family-none t m i e) (λ z. omega (arith, z)) o (h .rule y own l text m D)
 
   pub family-linked : {m m′ : List ℕ} {x : ℕ} → Family t i m m′ x → ¬ (i < x) → Linked m′ i x
   family-linked f l = record { js = f .kids; chain = f .chain (omega arith) }

@@ -72,6 +72,10 @@ grown-is : (k : ℕ) → Token k → isGrown k ≡ false
 grown-is k (inl l) = rw (ne-eqb k 21 (λ z. omega arith), lt-leb 24 k (omega arith))
 grown-is k (inr e) = rw e
 
+nine-not : (k : ℕ) → Token k → k ≡ 9 → ⊥
+nine-not k (inl l) e = omega arith
+nine-not k (inr l) e = omega arith
+
 six-not : (k : ℕ) → Token k → k ≡ 6 → ⊥
 six-not k (inl l) e = omega arith
 six-not k (inr l) e = omega arith
@@ -92,7 +96,7 @@ module _ {t : List ℕ} {i k e : ℕ} where
   token-by {x} f a b = record { yes = λ z. (a, b, sym f ∙ eqb-true x 0 z); no = λ z _ _ c. eqb-false x 0 z (f ∙ c) }
 
 pub unsure : {s t : List ℕ} {i : ℕ} {lines : Bool} → SingleBy s t i lines (record { sure = false; yes = false })
-unsure = record { token = λ z. clash (sym z); rule = λ z. clash (sym z) }
+unsure = record { other = λ z. clash (sym z); rule = λ z. clash (sym z) }
 
 -- ---- the rule
 
@@ -157,7 +161,7 @@ module _ {s t : List ℕ} {i : ℕ} {h : Head} {r : Bool} (tok : Token ((rowAt t
 
 pub sure : {s t : List ℕ} {i p : ℕ} {lines : Bool} {h : Head} {r : Bool} → Token ((rowAt t i) .kind) → p ≡ (rowAt t i) .start → HeadAt s p lines h → (h .end ≡ p → ⊥) → TokenAt t i (h .kind) (h .end) r → SingleBy s t i lines (record { sure = true; yes = r })
 sure {s} {t} {i} {p} {lines} {h} tok a at far is = record {
-  token = λ z. tok;
+  other = λ z. nine-not ((rowAt t i) .kind) tok;
   rule = λ z own e text m D.
       single-by tok own (subst (λ (l : Bool). HeadAt s ((rowAt t i) .start) l h) e (subst (λ (x : ℕ). HeadAt s x lines h) a at)) (λ f. far (f ∙ sym a)) is text m D;
 }

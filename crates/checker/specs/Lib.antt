@@ -13,5 +13,6 @@ pub mod ListFor
 pub mod Token
 pub mod Texts
 pub mod Node
+pub mod Told
 pub mod Check
 pub mod CheckLaws

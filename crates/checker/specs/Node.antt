@@ -67,9 +67,9 @@ pub record TokenAt (t : List ℕ) (i k e : ℕ) (r : Bool) : Type 0 where
   pub yes : r ≡ true → (readAs ((rowAt t i) .kind) ≡ k) × ((rowAt t i) .end ≡ e) × ((rowAt t i) .flag ≡ 0)
   pub no : r ≡ false → readAs ((rowAt t i) .kind) ≡ k → (rowAt t i) .end ≡ e → (rowAt t i) .flag ≡ 0 → ⊥
 
--- `r` says of the row i, which has no children, whether the rule holds at it, where it is sure
+-- `r` says of the row i, which has no children and is no piece, whether the rule holds at it, where it is sure
 pub record SingleBy (s t : List ℕ) (i : ℕ) (lines : Bool) (r : Look) : Type 0 where
-  pub token : r .sure ≡ true → Token ((rowAt t i) .kind)
+  pub other : r .sure ≡ true → (rowAt t i) .kind ≡ 9 → ⊥
   pub rule : r .sure ≡ true → (own : ℕ) → lines ≡ eqb (own % 2) 1 → (text m D : List ℕ) → RuleBy s text t i m D D i own (r .yes)
 
 -- `r` says whether the row l may be the left operand of the row i, in a mode: it starts where that does, is an expression that holds against the

@@ -4,7 +4,10 @@ use crate::program::fits;
 use crate::rows::wide;
 use crate::text::columns;
 use lexis::utf8::first_bad;
+ghost use Prim.Native.Nat.{_≤_};
+ghost use lib.ListN.{length};
 ghost use Rattle.checker.specs.Check.{Rooted, Ready, Walking, Checks};
+ghost use Rattle.checker.specs.Told.{Told};
 
 mod bare;
 mod bracket;
@@ -30,6 +33,7 @@ mod rows;
 mod single;
 mod text;
 mod texts;
+mod told;
 mod traversal;
 
 // What is wanted where an expression stands.
@@ -41,9 +45,9 @@ const TOP: u8 = 128;
 // Tables of at most so many rows have a smaller room.
 const FEW: usize = 512;
 
-const SOME: usize = 2048;
+const SOME: usize = 3072;
 
-const MANY: usize = 6144;
+const MANY: usize = 9216;
 
 const MOST: usize = 18432;
 
@@ -71,7 +75,7 @@ fn rooted(source: &[u8], table: &[u16], n: usize) -> bool
 }
 
 // The rule at each of n rows, from the last one backwards. `marks` links the children of a row, `depths` holds what the rows to come are under, and
-// `keys` the keys of an object, in slots of four numbers.
+// `keys` the keys of an object, in slots of four numbers; `told` is what objects tell of their keys.
 fn walk(
     source: &[u8],
     table: &[u16],
@@ -80,8 +84,9 @@ fn walk(
     marks: &mut [u16],
     depths: &mut [u8],
     keys: &mut [u16],
+    told: &mut [u16],
 ) -> bool
-    requires { ⌜ Walking (now source) (now table) n (now marks) (now depths) (now keys) ⌝ }
+    requires { ⌜ Walking (now source) (now table) n (now marks) (now depths) (now keys) × (n ≤ length (now told)) × Told (now source) (now table) (now told) ⌝ }
     ensures { λ r. ⌜ Checks (now (source .entry)) (now (table .entry)) (now (text .entry)) r ⌝ }
 {
     depths[n - 1] = TOP;
@@ -95,7 +100,7 @@ fn walk(
         if !x.good {
             return false;
         }
-        if !node(source, text, table, i - 1, marks, depths, keys) {
+        if !node(source, text, table, i - 1, marks, depths, keys, told) {
             return false;
         }
         u = x.before;
@@ -103,39 +108,44 @@ fn walk(
     }
 }
 
-// The walk in a room as small as will do, since all of it is cleared.
+// The walk in a room as small as will do, since all of it is cleared: marks, depths, keys and what is told.
 fn roomed(source: &[u8], table: &[u16], text: &[u8], n: usize) -> bool
     requires { ⌜ Ready (now source) (now table) n ⌝ }
     ensures { λ r. ⌜ Checks (now (source .entry)) (now (table .entry)) (now (text .entry)) r ⌝ }
 {
     if n <= FEW {
-        let mut marks = [1u16; 512];
-        let mut depths = [0u8; 512];
-        let mut keys = [1u16; 2048];
-        return walk(source, table, text, n, &mut marks, &mut depths, &mut keys);
+        let mut m = [1u16; 512];
+        let mut d = [0u8; 512];
+        let mut k = [1u16; 2048];
+        let mut t = [1u16; 512];
+        return walk(source, table, text, n, &mut m, &mut d, &mut k, &mut t);
     }
     if n <= SOME {
-        let mut marks = [1u16; 2048];
-        let mut depths = [0u8; 2048];
-        let mut keys = [1u16; 8192];
-        return walk(source, table, text, n, &mut marks, &mut depths, &mut keys);
+        let mut m = [1u16; 3072];
+        let mut d = [0u8; 3072];
+        let mut k = [1u16; 12288];
+        let mut t = [1u16; 3072];
+        return walk(source, table, text, n, &mut m, &mut d, &mut k, &mut t);
     }
     if n <= MANY {
-        let mut marks = [1u16; 6144];
-        let mut depths = [0u8; 6144];
-        let mut keys = [1u16; 24576];
-        return walk(source, table, text, n, &mut marks, &mut depths, &mut keys);
+        let mut m = [1u16; 9216];
+        let mut d = [0u8; 9216];
+        let mut k = [1u16; 36864];
+        let mut t = [1u16; 9216];
+        return walk(source, table, text, n, &mut m, &mut d, &mut k, &mut t);
     }
     if n <= MOST {
-        let mut marks = [1u16; 18432];
-        let mut depths = [0u8; 18432];
-        let mut keys = [1u16; 73728];
-        return walk(source, table, text, n, &mut marks, &mut depths, &mut keys);
+        let mut m = [1u16; 18432];
+        let mut d = [0u8; 18432];
+        let mut k = [1u16; 73728];
+        let mut t = [1u16; 18432];
+        return walk(source, table, text, n, &mut m, &mut d, &mut k, &mut t);
     }
-    let mut marks = [1u16; 65535];
-    let mut depths = [0u8; 65535];
-    let mut keys = [1u16; 262140];
-    walk(source, table, text, n, &mut marks, &mut depths, &mut keys)
+    let mut m = [1u16; 65535];
+    let mut d = [0u8; 65535];
+    let mut k = [1u16; 262140];
+    let mut t = [1u16; 65535];
+    walk(source, table, text, n, &mut m, &mut d, &mut k, &mut t)
 }
 
 // Whether a table and a text are the reading of a source.

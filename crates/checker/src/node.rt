@@ -1,6 +1,4 @@
 // The rule at one row.
-use crate::bare::attribute;
-use crate::bare::name;
 use crate::direct::item;
 use crate::direct::operator;
 use crate::family::family;
@@ -30,6 +28,7 @@ ghost use Rattle.checker.specs.Rows.{rowAt};
 ghost use Rattle.checker.specs.Family.{Linked};
 ghost use Rattle.checker.specs.Leaf.{isGrown};
 ghost use Rattle.checker.specs.Node.{NoText, Heading, Noding, RuleBy, noLeft, LeftTo, NodeBy};
+ghost use Rattle.checker.specs.Told.{Told, Telling};
 
 // What is wanted where an expression stands.
 const EXPRESSION: u8 = 0;
@@ -226,30 +225,34 @@ fn headed(
     marks: &[u16],
     depths: &mut [u8],
     keys: &mut [u16],
+    told: &mut [u16],
     first: usize,
     own: u8,
 ) -> bool
-    requires { ⌜ Noding (now s) (now table) i (now marks) (now depths) (now keys) own × Linked (now marks) i first × (isGrown ((rowAt (now table) i) .kind) ≡ false) × NoText ((rowAt (now table) i) .kind) ⌝ }
-    ensures { λ r. ⌜ RuleBy (now (s .entry)) (now (text .entry)) (now (table .entry)) i (now (marks .entry)) (now (depths .entry)) (now (depths .exit)) first own r ⌝ }
+    requires { ⌜ Noding (now s) (now table) i (now marks) (now depths) (now keys) own × Linked (now marks) i first × (isGrown ((rowAt (now table) i) .kind) ≡ false) × NoText ((rowAt (now table) i) .kind) × Telling (now s) (now table) i (now told) ⌝ }
+    ensures { λ r. ⌜ RuleBy (now (s .entry)) (now (text .entry)) (now (table .entry)) i (now (marks .entry)) (now (depths .entry)) (now (depths .exit)) first own r × Told (now (s .entry)) (now (table .entry)) (now (told .exit)) ⌝ }
 {
     let kind = table[7 * i];
     let start = wide(table[7 * i + 2]);
     let lines = multi_line(own);
-    if kind == Kind::ITEM {
-        return item(s, table, i, marks, depths, first, start, own);
-    }
-    if kind == Kind::ATTRIBUTE {
-        return attribute(s, table, i, first, start);
-    }
-    if kind == Kind::NAME {
-        return name(s, table, i, first, start);
-    }
     if !first_at(s, kind, start, lines) {
         return false;
     }
     let left = levels(own);
     if kind == Kind::OBJECT {
-        return object(s, table, i, marks, depths, keys, first, start, left, lines);
+        return object(
+            s,
+            table,
+            i,
+            marks,
+            depths,
+            keys,
+            told,
+            first,
+            start,
+            left,
+            lines,
+        );
     }
     if first == i {
         return lay(s, table, i, marks, depths, first, start, left, lines);
@@ -278,13 +281,26 @@ fn ruled(
     marks: &[u16],
     depths: &mut [u8],
     keys: &mut [u16],
+    told: &mut [u16],
     first: usize,
     own: u8,
 ) -> bool
-    requires { ⌜ Noding (now s) (now table) i (now marks) (now depths) (now keys) own × Linked (now marks) i first × ((rowAt (now table) i) .kind ≡ 9 → ⊥) ⌝ }
-    ensures { λ r. ⌜ RuleBy (now (s .entry)) (now (text .entry)) (now (table .entry)) i (now (marks .entry)) (now (depths .entry)) (now (depths .exit)) first own r ⌝ }
+    requires { ⌜ Noding (now s) (now table) i (now marks) (now depths) (now keys) own × Linked (now marks) i first × ((rowAt (now table) i) .kind ≡ 9 → ⊥) × Telling (now s) (now table) i (now told) ⌝ }
+    ensures { λ r. ⌜ RuleBy (now (s .entry)) (now (text .entry)) (now (table .entry)) i (now (marks .entry)) (now (depths .entry)) (now (depths .exit)) first own r × Told (now (s .entry)) (now (table .entry)) (now (told .exit)) ⌝ }
 {
     let kind = table[7 * i];
+    if kind == Kind::ITEM {
+        return item(
+            s,
+            table,
+            i,
+            marks,
+            depths,
+            first,
+            wide(table[7 * i + 2]),
+            own,
+        );
+    }
     if kind == Kind::STRING {
         if first != i {
             return false;
@@ -300,10 +316,10 @@ fn ruled(
     if is_grown(kind) {
         return grown(s, text, table, i, marks, depths, keys, first, own);
     }
-    headed(s, text, table, i, marks, depths, keys, first, own)
+    headed(s, text, table, i, marks, depths, keys, told, first, own)
 }
 
-// Whether the rule holds at the i-th row. Its children's depths are put down, and their links.
+// Whether the rule holds at the i-th row. Its children's depths are put down, and their links; of an object, what is known of its keys.
 pub fn node(
     s: &[u8],
     text: &[u8],
@@ -312,14 +328,15 @@ pub fn node(
     marks: &mut [u16],
     depths: &mut [u8],
     keys: &mut [u16],
+    told: &mut [u16],
 ) -> bool
-    requires { ⌜ Noding (now s) (now table) i (now marks) (now depths) (now keys) (getD (now depths) i 0) ⌝ }
-    ensures { λ r. ⌜ NodeBy (now (s .entry)) (now (text .entry)) (now (table .entry)) i (now (depths .entry)) (now (depths .exit)) r ⌝ }
+    requires { ⌜ Noding (now s) (now table) i (now marks) (now depths) (now keys) (getD (now depths) i 0) × Telling (now s) (now table) i (now told) ⌝ }
+    ensures { λ r. ⌜ NodeBy (now (s .entry)) (now (text .entry)) (now (table .entry)) i (now (depths .entry)) (now (depths .exit)) r × Told (now (s .entry)) (now (table .entry)) (now (told .exit)) ⌝ }
 {
     let own = depths[i];
     // most rows have no children and are told by one look
     if table[7 * i + 4] == 1 {
-        let x = single(s, table, i, multi_line(own));
+        let x = single(s, table, i, told, multi_line(own));
         if x.sure {
             return x.yes;
         }
@@ -331,5 +348,5 @@ pub fn node(
     if i < first {
         return false;
     }
-    ruled(s, text, table, i, marks, depths, keys, first, own)
+    ruled(s, text, table, i, marks, depths, keys, told, first, own)
 }

@@ -4,12 +4,14 @@ use crate::lone::Memo;
 use crate::lone::alone;
 use crate::moves::after;
 use crate::pass::pass;
+use crate::told::tell;
 use grammar::moves::space;
 use index::mark::token_at;
 use lexis::operator::mark_end;
 ghost use mathlib.Core.Path.{_≡_};
 ghost use Rattle.checker.specs.Rows.{rowAt};
 ghost use Rattle.checker.specs.Lay.{Laying, LaidBy};
+ghost use Rattle.checker.specs.Told.{Told, Telling};
 
 // The class of an object's items.
 const ITEMS: u8 = 7;
@@ -22,13 +24,14 @@ pub fn object(
     marks: &[u16],
     depths: &mut [u8],
     keys: &mut [u16],
+    told: &mut [u16],
     first: usize,
     p: usize,
     left: usize,
     lines: bool,
 ) -> bool
-    requires { ⌜ Laying (now table) i (now marks) (now depths) (now keys) first left × ((rowAt (now table) i) .kind ≡ 12) ⌝ }
-    ensures { λ r. ⌜ LaidBy (now (s .entry)) (now (table .entry)) i (now (marks .entry)) (now (depths .entry)) (now (depths .exit)) first p left lines r ⌝ }
+    requires { ⌜ Laying (now table) i (now marks) (now depths) (now keys) first left × ((rowAt (now table) i) .kind ≡ 12) × Telling (now s) (now table) i (now told) ⌝ }
+    ensures { λ r. ⌜ LaidBy (now (s .entry)) (now (table .entry)) i (now (marks .entry)) (now (depths .entry)) (now (depths .exit)) first p left lines r × Told (now (s .entry)) (now (table .entry)) (now (told .exit)) ⌝ }
 {
     if left == 0 {
         return false;
@@ -75,6 +78,7 @@ pub fn object(
         if !c.good {
             return false;
         }
+        tell(table, told, j, at, t.end, key.yes);
         let g = after(s, c.end);
         if g.kind == 1 {
             return ends(table, i, c.next, g.at, 0);

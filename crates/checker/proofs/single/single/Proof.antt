@@ -1,87 +1,68 @@
 use mathlib.Core.Path.{_≡_, refl, sym, ap, subst, _∙_}
 use borrow.Author.Tests.{not-true, not-false}
-use Rattle.checker.proofs.Singles.{unsure, sure}
+use Rattle.checker.proofs.Singles.{sure}
+use Rattle.checker.proofs.Looks.{look-as, look-none, look-key, look-name, look-dot}
 use borrow.Author.Needs.{needs}
 use Rattle.checker.proofs.single.single.Statement.{statement}
 use Rattle.checker.proofs.single.single.Tie as tie
-use Rattle.checker.proofs.single.single.Reads as reads
-use Rattle.checker.proofs.single.single.Lts as lts
-use Rattle.checker.proofs.rows.wide.Reads as wide-reads
-use Rattle.checker.proofs.single.is_alone.Reads as is-alone-reads
-use Rattle.checker.proofs.single.is_token.Reads as is-token-reads
-use Rattle.grammar.proofs.picks.head_at.Reads as head-at-reads
 
--- src/single.rt:57:24
-mul-is-token : tie.Need-mul-is-token
-mul-is-token c = search needs
+attribute-requires : tie.Need-attribute-requires
+attribute-requires c κs = ((c .before .before .before .before .before .before .before .pre .0), (c .if1 .taken))
 
--- src/single.rt:57:18
-mul-is-token-2 : tie.Need-mul-is-token-2
-mul-is-token-2 c = search needs
-
--- src/single.rt:57:18
-shared-slice-read-is-token : tie.Need-shared-slice-read-is-token
-shared-slice-read-is-token c = search needs
-
--- src/single.rt:57:9
-is-token-requires : tie.Need-is-token-requires
-is-token-requires c κs = search needs
-
--- src/single.rt:58:9
 returns : tie.Need-returns
-returns c = unsure
+returns c = look-dot (c .before .before .before .wide .ensures .0) (c .looked .ensures) (c .before .before .if1 .taken) (c .before .attribute .ensures)
 
--- src/single.rt:63:28
-mul-wide : tie.Need-mul-wide
-mul-wide c = search needs
+name-requires : tie.Need-name-requires
+name-requires c κs = ((c .before .before .before .before .before .before .before .before .pre .0), (c .if2 .taken))
 
--- src/single.rt:63:28
-add-wide : tie.Need-add-wide
-add-wide c = search needs
-
--- src/single.rt:63:22
-mul-wide-2 : tie.Need-mul-wide-2
-mul-wide-2 c = search needs
-
--- src/single.rt:63:22
-shared-slice-read-wide : tie.Need-shared-slice-read-wide
-shared-slice-read-wide c = search needs
-
--- src/single.rt:63:9
-wide-requires : tie.Need-wide-requires
-wide-requires c κs = search needs
-
--- src/single.rt:64:9
-head-at-requires : tie.Need-head-at-requires
-head-at-requires c κs = search needs
-
--- src/single.rt:66:9
 returns-2 : tie.Need-returns-2
-returns-2 c = unsure
+returns-2 c = look-name (c .before .before .before .before .wide .ensures .0) (c .looked2 .ensures) (c .before .before .if2 .taken) (c .before .name .ensures)
 
--- src/single.rt:71:9
-is-alone-requires : tie.Need-is-alone-requires
-is-alone-requires c κs = search needs
+keyed-requires : tie.Need-keyed-requires
+keyed-requires c κs = (c .before .before .before .before .before .before .before .before .pre)
 
--- src/single.rt:53:1
 returns-3 : tie.Need-returns-3
-returns-3 c = sure ((c .before .before .before .before .before .before .before .is-token .ensures) (not-false _ (c .before .before .before .before .before .before .if1 .left))) (c .before .before .before .before .wide .ensures .0) (c .before .before .before .head-at .ensures) (c .before .if2 .left) (c .is-alone .ensures)
+returns-3 c = look-key (c .before .if3 .taken) (c .looked3 .ensures) (c .before .before .keyed .ensures)
+
+returns-4 : tie.Need-returns-4
+returns-4 c = look-none (c .unsure .ensures)
+
+returns-5 : tie.Need-returns-5
+returns-5 c = look-none (c .unsure2 .ensures)
+
+is-alone-requires : tie.Need-is-alone-requires
+is-alone-requires c κs = (c .before .before .before .before .before .before .before .before .before .before .before .before .before .before .before .pre .0)
+
+returns-6 : tie.Need-returns-6
+returns-6 c = look-as (c .looked4 .ensures) (sure ((c .before .before .before .before .before .before .is-token .ensures) (not-false _ (c .before .before .before .before .before .if4 .left))) (c .before .before .before .before .before .before .before .before .before .before .before .wide .ensures .0) (c .before .before .before .before .head-at .ensures) (c .before .before .if5 .left) (c .before .is-alone .ensures))
 
 pub single-spec : {M : Type 1} → statement M
 single-spec =
     tie.close
     (tie.spec
-    mul-is-token
-    mul-is-token-2
-    shared-slice-read-is-token
-    is-token-requires
+    (λ c. search needs)
+    (λ c. search needs)
+    (λ c. search needs)
+    (λ c. search needs)
+    (λ c. search needs)
+    (λ c. search needs)
+    (λ c. search needs)
+    (λ c κs. search needs)
+    attribute-requires
+    (λ c κs. search needs)
     returns
-    mul-wide
-    add-wide
-    mul-wide-2
-    shared-slice-read-wide
-    wide-requires
-    head-at-requires
+    name-requires
+    (λ c κs. search needs)
     returns-2
+    keyed-requires
+    (λ c κs. search needs)
+    returns-3
+    (λ c κs. search needs)
+    (λ c κs. search needs)
+    returns-4
+    (λ c κs. search needs)
+    (λ c κs. search needs)
+    returns-5
     is-alone-requires
-    returns-3)
+    (λ c κs. search needs)
+    returns-6)
