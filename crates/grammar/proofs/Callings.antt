@@ -18,8 +18,9 @@ use Rattle.lexis.specs.Word as words
 use Rattle.lexis.specs.Operator.{opAt, OpHere, isMark, equalsTo}
 use Rattle.lexis.specs.String.{quoted, textAt, RunHere}
 use Rattle.lexis.specs.RunLaws.{clash, stands-cons, stands-one, stands-two}
+use Rattle.lexis.specs.Keys.{keyTo}
 use Rattle.engine.specs.Base.{choose}
-use Rattle.grammar.specs.Moves.{anExpression, aPart, isPart, keyTo, behindKey, lone}
+use Rattle.grammar.specs.Moves.{anExpression, aPart, isPart, behindKey, lone}
 use Rattle.grammar.specs.Hcl.{beyond, isFor, isBroken, isTemplate, terms, portions, pickAt, follows, followIn, followAt, under}
 use Rattle.grammar.specs.Said.{kindOf, TermAt, PartAt, Follow, byteBeyond, callsAt, wordKind, forBeyond, brokenAt, colonAt}
 

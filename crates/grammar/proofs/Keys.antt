@@ -15,9 +15,10 @@ use Rattle.lexis.specs.Word.{null, yes, isWord, identTo, constantAt}
 use Rattle.lexis.specs.Word as words
 use Rattle.lexis.specs.Operator.{equalsTo, isMark}
 use Rattle.lexis.specs.RunLaws.{inside, clash, stands-one, stands-two, stands-inside, and-left}
+use Rattle.lexis.specs.Keys.{keyTo}
 use Rattle.engine.specs.Base.{choose}
 use Rattle.grammar.specs.declared.picks.Key.{Key}
-use Rattle.grammar.specs.Moves.{keyTo, behindKey, lone, to, skip, gapStep}
+use Rattle.grammar.specs.Moves.{behindKey, lone, to, skip, gapStep}
 use Rattle.grammar.specs.Hcl.{follows}
 use Rattle.grammar.specs.KeyLaws.{Behind, lone-behind, behind-still, behind-call, start-digit}
 use Rattle.grammar.specs.Said.{callsAt, Follow}

@@ -21,13 +21,13 @@ use Rattle.lexis.specs.Utf8.{isScalar}
 use Rattle.lexis.specs.Heredoc.{freshAt}
 use Rattle.lexis.specs.String as string
 use Rattle.lexis.specs.String.{Mode, quoted, unitIn, textAt}
-use Rattle.lexis.specs.Keys.{Key, word, plain, other as odd, keyAt, plainAs, stringAt, sameAs, sameKey, among, restOf}
+use Rattle.lexis.specs.Keys.{Key, word, plain, other as odd, keyAt, plainAs, stringAt, sameAs, sameKey, among, restOf, keyTo}
 use Rattle.lexis.specs.RunLaws.{clash, front, and-left, and-right, stands-one, stands-two, stands-cons, run-on, run-stop, inside, other}
 use Rattle.engine.specs.Base.{Rec, Tree, Trees, recOf, choose, allOf}
 use Rattle.engine.specs.Rule.{Runs, rfin, rmove, ryes, rno, Firm, Local, first, later, Every, every, Everys, enil, econs}
 use Rattle.engine.specs.BaseLaws.{and-t, some-is}
 use Rattle.grammar.specs.Moves
-use Rattle.grammar.specs.Moves.{anExpression, Under, to, place, ident, mark, close, round, closeAs, atom, walk, lone, behindKey, keyTo}
+use Rattle.grammar.specs.Moves.{anExpression, Under, to, place, ident, mark, close, round, closeAs, atom, walk, lone, behindKey}
 use Rattle.grammar.specs.Layouts.{layouts, layoutOf, wordLay, identLay, stringLay}
 use Rattle.grammar.specs.MoveLaws.{to-is, no-to, by-test, not-made}
 use Rattle.grammar.specs.BoundLaws.{one-atom}
