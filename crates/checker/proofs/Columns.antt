@@ -2,7 +2,7 @@
 use Prim.Native.Nat.{ℕ, _+_, _-_, _≤_, _<_}
 use mathlib.Core.Path.{_≡_, refl, sym, ap, _∙_}
 use mathlib.Core.List.{List}
-use mathlib.Core.Bool.{Bool, true, false, cond, _&&_, _||_}
+use mathlib.Core.Bool.{Bool, true, false, cond, _&&_, _||_, or-false}
 use native.Mathlib.Omega.{arith}
 use lib.Dec.{eqb, ltb}
 use borrow.Author.Tests.{eq-eqb, ne-eqb, eqb-true, eqb-false, lt-ltb, le-ltb, ltb-true, ltb-false}
@@ -36,10 +36,6 @@ module _ (flag from n a b u : ℕ) where
 -- its text stands in the buffer
 abbrev texted : Record → Bool
 texted r = (eqb (r .kind) 6 && eqb (r .flag) 1) || (eqb (r .kind) 9 && eqb (r .flag) 1)
-
-or-false : (b : Bool) → (b || false) ≡ b
-or-false true = refl
-or-false false = refl
 
 pair-first : {a b c d : ℕ} → _≡_ {A = ℕ × ℕ} (a, b) (c, d) → a ≡ c
 pair-first e = ap (λ (x : ℕ × ℕ). x .0) e

@@ -2,7 +2,7 @@
 use Prim.Native.Nat.{ℕ, zero, suc, _+_, _-_, _*_, _≤_, _<_}
 use mathlib.Core.Path.{_≡_, refl, sym, ap, subst, _∙_}
 use mathlib.Core.List.{List, [], _∷_}
-use mathlib.Core.Bool.{Bool, true, false, cond, not, _&&_, _||_}
+use mathlib.Core.Bool.{Bool, true, false, cond, not, _&&_, _||_, or-false}
 use mathlib.Core.Logic.{_⊎_, inl, inr}
 use native.Mathlib.Omega.{arith}
 use lib.ListN.{length, drop}
@@ -14,8 +14,9 @@ use Rattle.lexis.specs.Bytes.{byteAt, isSpace, begins, stands, upTo, Byte, Ran}
 use Rattle.lexis.specs.Trivia.{Item, none, wide, closes, block, item, endsAt, openAt, placed, gapTo}
 use Rattle.lexis.specs.Operator.{isMark, equalsTo}
 use Rattle.lexis.specs.RunLaws.{clash, front, inside, and-left, and-right, stands-cons, stands-one, stands-two, stands-inside, reach, reach-on, reach-stop, reach-end}
+use Rattle.lexis.specs.Keys.{keyTo}
 use Rattle.lexis.proofs.Trivias.{block-found, block-endless, item-space, item-block, gap-stop, gap-on}
-use Rattle.grammar.specs.Moves.{lone, keyTo}
+use Rattle.grammar.specs.Moves.{lone}
 use Rattle.grammar.specs.Layouts.{Class, key, value, term, entry}
 use Rattle.grammar.specs.Code.{classOf}
 use Rattle.checker.specs.declared.lone.Memo.{Memo}
@@ -285,10 +286,6 @@ module _ {s : List ℕ} {c at : ℕ} (t : Trail s c at) where
 module _ {s : List ℕ} {q e : ℕ} (i : Ran s q (equalsTo s q) e) where
   colon-bytes : isMark (58 ∷ []) ((58 ∷ 58 ∷ []) ∷ []) s q ≡ (eqb (byteAt s q) 58 && not ((eqb (byteAt s q) 58 && eqb (byteAt s (q + 1)) 58) || false))
   colon-bytes = rw (stands-one 58 s q refl, stands-two 58 58 s q refl refl)
-
-  or-false : (b : Bool) → (b || false) ≡ b
-  or-false true = refl
-  or-false false = refl
 
   pub sign-equals : ¬ (e ≡ q) → true ≡ signAt s q
   sign-equals n = rw (ne-eqb (equalsTo s q) q (λ z. n (i .is ∙ z)))

@@ -2,7 +2,7 @@
 use Prim.Native.Nat.{ℕ, zero, suc, _+_, _-_, _≤_, _<_}
 use mathlib.Core.Path.{_≡_, refl, sym, ap, _∙_}
 use mathlib.Core.List.{List, [], _∷_}
-use mathlib.Core.Bool.{Bool, true, false, cond, not, _&&_, _||_}
+use mathlib.Core.Bool.{Bool, true, false, cond, not, _&&_, _||_, or-false}
 use mathlib.Core.Option.{Option, none, some}
 use native.Mathlib.Omega.{arith}
 use lib.Dec.{eqb, ltb}
@@ -18,8 +18,9 @@ use Rattle.lexis.specs.Word as words
 use Rattle.lexis.specs.Operator.{opAt, OpHere, isMark, equalsTo}
 use Rattle.lexis.specs.String.{quoted, textAt, RunHere}
 use Rattle.lexis.specs.RunLaws.{clash, stands-cons, stands-one, stands-two}
+use Rattle.lexis.specs.Keys.{keyTo}
 use Rattle.engine.specs.Base.{choose}
-use Rattle.grammar.specs.Moves.{anExpression, aPart, isPart, keyTo, behindKey, lone}
+use Rattle.grammar.specs.Moves.{anExpression, aPart, isPart, behindKey, lone}
 use Rattle.grammar.specs.Hcl.{beyond, isFor, isBroken, isTemplate, terms, portions, pickAt, follows, followIn, followAt, under}
 use Rattle.grammar.specs.Said.{kindOf, TermAt, PartAt, Follow, byteBeyond, callsAt, wordKind, forBeyond, brokenAt, colonAt}
 
@@ -319,10 +320,6 @@ module _ {s : List ℕ} {k : ℕ} {g : Gap} (a : ℕ) (h : k ≡ keyTo s a) (f :
 
   colon-bytes : colonAt s (g .at) ≡ (eqb (byteAt s (g .at)) 58 && not ((eqb (byteAt s (g .at)) 58 && eqb (byteAt s (g .at + 1)) 58) || false))
   colon-bytes = rw (stands-one 58 s (g .at) refl, stands-two 58 58 s (g .at) refl refl)
-
-  or-false : (b : Bool) → (b || false) ≡ b
-  or-false true = refl
-  or-false false = refl
 
   module _ {e : ℕ} (i : Ran s (g .at) (equalsTo s (g .at)) e) where
     pub lone-equals : (e ≡ g .at → ⊥) → true ≡ lone s a

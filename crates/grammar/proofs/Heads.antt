@@ -2,7 +2,7 @@
 use Prim.Native.Nat.{ℕ, zero, suc, _+_, _-_, _*_, _≤_, _<_}
 use mathlib.Core.Path.{_≡_, refl, sym, ap, subst, _∙_}
 use mathlib.Core.List.{List, [], _∷_}
-use mathlib.Core.Bool.{Bool, true, false, cond, not, _&&_, _||_}
+use mathlib.Core.Bool.{Bool, true, false, cond, not, _&&_, _||_, and-false}
 use native.Mathlib.Omega.{arith}
 use lib.ListN.{length}
 use lib.Dec.{T, eqb, leb}
@@ -44,10 +44,6 @@ walk-number : (s : List ℕ) (p : ℕ) (b : Under) (σ : ℕ) → (numberTo s p 
 unfolding walk atom
 walk-number s p b σ n = rw (ne-eqb (numberTo s p) p n)
 
-and-no : (b : Bool) → (b && false) ≡ false
-and-no true = refl
-and-no false = refl
-
 -- no minus stands where a digit does
 walk-minus : (s : List ℕ) (p : ℕ) (b : Under) (σ : ℕ) → isDigit (byteAt s p) ≡ true → walk s b σ (mark (45 ∷ []) [] ∷ gap line ∷ []) p ≡ no 4 p
 unfolding walk atom
@@ -57,7 +53,7 @@ walk-minus s p b σ e = rw (stands-one 45 s p refl, ne-eqb (byteAt s p) 45 (λ z
     native e = go (leb 128 (byteAt s p)) refl
       where
         over : 128 ≤ byteAt s p → isDigit (byteAt s p) ≡ false
-        over h = rw (lt-leb (byteAt s p) 57 (omega arith)) (and-no (leb 48 (byteAt s p)))
+        over h = rw (lt-leb (byteAt s p) 57 (omega arith)) (and-false (leb 48 (byteAt s p)))
 
         go : (b : Bool) → leb 128 (byteAt s p) ≡ b → (b && leb (byteAt s p) 255) ≡ false
         go true z = clash (sym (rw (over (leb-true 128 (byteAt s p) z)) at e))

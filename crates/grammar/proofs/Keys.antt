@@ -2,7 +2,7 @@
 use Prim.Native.Nat.{ℕ, zero, suc, _+_, _-_, _*_, _≤_, _<_}
 use mathlib.Core.Path.{_≡_, refl, sym, ap, subst, _∙_}
 use mathlib.Core.List.{List, [], _∷_}
-use mathlib.Core.Bool.{Bool, true, false, cond, not, _&&_, _||_}
+use mathlib.Core.Bool.{Bool, true, false, cond, not, _&&_, _||_, or-true}
 use mathlib.Core.Option.{none}
 use native.Mathlib.Omega.{arith}
 use lib.ListN.{length, drop}
@@ -15,9 +15,10 @@ use Rattle.lexis.specs.Word.{null, yes, isWord, identTo, constantAt}
 use Rattle.lexis.specs.Word as words
 use Rattle.lexis.specs.Operator.{equalsTo, isMark}
 use Rattle.lexis.specs.RunLaws.{inside, clash, stands-one, stands-two, stands-inside, and-left}
+use Rattle.lexis.specs.Keys.{keyTo}
 use Rattle.engine.specs.Base.{choose}
 use Rattle.grammar.specs.declared.picks.Key.{Key}
-use Rattle.grammar.specs.Moves.{keyTo, behindKey, lone, to, skip, gapStep}
+use Rattle.grammar.specs.Moves.{behindKey, lone, to, skip, gapStep}
 use Rattle.grammar.specs.Hcl.{follows}
 use Rattle.grammar.specs.KeyLaws.{Behind, lone-behind, behind-still, behind-call, start-digit}
 use Rattle.grammar.specs.Said.{callsAt, Follow}
@@ -62,10 +63,6 @@ constant-few s p k e = go (isWord null s p) (isWord yes s p) (isWord words.no s 
 constant-as : (k : ℕ) → k ≤ 3 → k ≡ cond (eqb k 5) 0 k
 constant-as k h = rw (ne-eqb k 5 (λ z. omega arith))
 
-or-last : (b : Bool) → (b || true) ≡ true
-or-last true = refl
-or-last false = refl
-
 module _ {s : List ℕ} {p e x : ℕ} {g : Gap} (st : isStart (byteAt s p) ≡ true) (h : Ran s p (identTo s p) e) (gp : Gapped false s e g) (shut : g .unclosed ≡ false) (sg : SignOf s (g .at) x) (n : x ≡ 0 → ⊥) where
   to-key : e ≡ keyTo s p
   to-key = h .is ∙ sym (rw (ne-eqb (byteAt s p) 34 (λ z. clash (sym st ∙ ap isStart z))))
@@ -76,7 +73,7 @@ module _ {s : List ℕ} {p e x : ℕ} {g : Gap} (st : isStart (byteAt s p) ≡ t
   lone-by : (y : ℕ) → y ≡ x → (not (eqb (equalsTo s (g .at)) (g .at)) || isMark (58 ∷ []) ((58 ∷ 58 ∷ []) ∷ []) s (g .at)) ≡ true
   lone-by zero z = absurd (n (sym z))
   lone-by (suc zero) z = rw (sg .equals (sym z), ne-eqb (g .at + 1) (g .at) (λ w. omega arith))
-  lone-by (suc (suc zero)) z = rw (sg .colon (sym z) .1) (or-last (not (eqb (equalsTo s (g .at)) (g .at))))
+  lone-by (suc (suc zero)) z = rw (sg .colon (sym z) .1) (or-true (not (eqb (equalsTo s (g .at)) (g .at))))
   lone-by (suc (suc (suc y))) z = absurd (omega (arith, sg .few))
 
   is-lone : lone s p ≡ true

@@ -2,7 +2,7 @@
 use Prim.Native.Nat.{ℕ, zero, suc, _+_, _-_, _*_, _≤_}
 use mathlib.Core.Path.{_≡_, refl, sym, ap, _∙_}
 use mathlib.Core.List.{List, [], _∷_}
-use mathlib.Core.Bool.{Bool, true, false, cond, not, _&&_, _||_}
+use mathlib.Core.Bool.{Bool, true, false, cond, not, _&&_, _||_, or-false}
 use native.Mathlib.Omega.{arith}
 use lib.Dec.{eqb}
 use borrow.Author.Tests.{eq-eqb, ne-eqb}
@@ -111,10 +111,6 @@ module _ (s : List ℕ) (p : ℕ) where
 
   pub part-none : (byteAt s p ≡ 91 → ⊥) → (byteAt s p ≡ 46 → ⊥) → false ≡ isPart s p
   part-none m n = sym (part-bytes ∙ rw (ne-eqb (byteAt s p) 91 m, ne-eqb (byteAt s p) 46 n))
-
-  or-false : (b : Bool) → (b || false) ≡ b
-  or-false true = refl
-  or-false false = refl
 
   pub part-dot : (byteAt s p ≡ 91 → ⊥) → byteAt s p ≡ 46 → not (eqb (byteAt s (p + 1)) 46) ≡ isPart s p
   part-dot m e = sym (part-bytes ∙ rw (ne-eqb (byteAt s p) 91 m, eq-eqb (byteAt s p) 46 e, or-false (eqb (byteAt s (p + 1)) 46)))

@@ -1,14 +1,13 @@
 -- Laws on tables: a test that passes at every entry, which is computed once, passes at each.
-use Prim.Native.Nat.{ℕ, zero, suc, _+_, _-_, _*_, _/_, _%_, _≤_, _<_}
-use mathlib.Core.Path.{_≡_, refl, sym, ap, _∙_}
+use Prim.Native.Nat.{ℕ, zero, suc, _-_, _*_, _≤_, _<_}
+use mathlib.Core.Path.{_≡_, refl}
 use mathlib.Core.List.{List, [], _∷_}
 use mathlib.Core.Bool.{Bool, true, false, cond, not, _&&_, _||_}
 use native.Mathlib.Omega.{arith}
-use lib.ListN.{length, getD, drop, List·getD-eq-default}
+use lib.ListN.{getD, List·getD-eq-default}
 use lib.Dec.{T, leb, leb→le}
-use borrow.Author.Tests.{le-leb, lt-leb, leb-true, leb-false}
+use borrow.Author.Tests.{leb-true, leb-false}
 use Rattle.engine.specs.Base.{allOf, has}
-use Rattle.grammar.specs.Kinds.{tights, tightOf, levelOf}
 use Rattle.grammar.specs.Code.{atoms, program, code, operation, class, begins, begin}
 use Rattle.grammar.specs.Said.{classes}
 
@@ -53,28 +52,6 @@ atom-within a = go (leb 146 a) refl
     go : (b : Bool) → leb 146 a ≡ b → getD atoms a 0 ≤ 65535 * (146 - a)
     go true e = let h : 146 ≤ a = leb-true 146 a e in omega (arith, List·getD-eq-default atoms 0 {n = a} h)
     go false e = let h : a < 146 = leb-false 146 a e in omega (arith, leb→le (getD atoms a 0) 65535 (at (λ x. leb x 65535) atoms tt tt a))
-
--- ---- levels
-
-positive : (xs : List ℕ) (k : ℕ) → T (allOf (leb 1) xs) → k < length xs → 1 ≤ getD xs k 0
-positive [] k t h = absurd (omega arith)
-positive (x ∷ xs) zero t h = leb→le 1 x (first (leb 1 x) (allOf (leb 1) xs) t)
-positive (x ∷ xs) (suc k) t h = positive xs k (second (leb 1 x) (allOf (leb 1) xs) t) (omega arith)
-
--- every kind binds
-pub tight-pos : (k : ℕ) → 1 ≤ k → k ≤ 42 → 1 ≤ tightOf k
-tight-pos zero h g = absurd (omega arith)
-tight-pos (suc k) h g = positive (drop 1 tights) k tt (omega arith)
-
--- the level by its two tests
-pub level-low : (k : ℕ) → k < 24 → levelOf k ≡ 0
-level-low k h = rw (lt-leb 24 k h)
-
-pub level-high : (k : ℕ) → 36 < k → levelOf k ≡ 0
-level-high k h = rw (le-leb 24 k (omega arith), lt-leb k 36 h)
-
-pub level-in : (k : ℕ) → 24 ≤ k → k ≤ 36 → levelOf k ≡ tightOf k - 1
-level-in k h g = rw (le-leb 24 k h, le-leb k 36 g)
 
 -- ---- tables as a match: an arm for each entry, and one for what lies behind
 

@@ -8,11 +8,12 @@ use lib.Dec.{eqb}
 use Rattle.lexis.specs.Bytes.{isStart, byteAt, stands}
 use Rattle.lexis.specs.Word.{constantAt}
 use Rattle.lexis.specs.Operator.{equalsTo, isMark}
+use Rattle.lexis.specs.Keys.{keyTo}
 use Rattle.engine.specs.Layout.{Lay, fin, move, fork}
 use Rattle.grammar.specs.declared.picks.Head.{Head}
 use Rattle.grammar.specs.declared.picks.Key.{Key}
 use Rattle.grammar.specs.Kinds.{tightOf}
-use Rattle.grammar.specs.Moves.{Want, Under, to, no, walk, skip, keyTo, behindKey, lone, Move, gap, operator, here}
+use Rattle.grammar.specs.Moves.{Want, Under, to, no, walk, skip, behindKey, lone, Move, gap, operator, here}
 use Rattle.grammar.specs.Layouts.{Layout, layoutOf, operatorLay}
 use Rattle.grammar.specs.Hcl.{under}
 use Rattle.grammar.specs.Said.{TermAt, Follow}

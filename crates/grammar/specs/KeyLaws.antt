@@ -3,6 +3,7 @@ use Prim.Native.Nat.{ℕ, _+_, _≤_}
 use mathlib.Core.Path.{_≡_, refl, sym, ap, _∙_, subst}
 use mathlib.Core.List.{List, [], _∷_}
 use mathlib.Core.Bool.{Bool, true, false, cond, not, _&&_, _||_}
+use mathlib.Core.Bool as bool
 use mathlib.Core.Option.{Option, none, some}
 use mathlib.Core.Logic.{_⊎_, inl, inr}
 use native.Mathlib.Omega.{arith}
@@ -20,13 +21,13 @@ use Rattle.lexis.specs.Utf8.{isScalar}
 use Rattle.lexis.specs.Heredoc.{freshAt}
 use Rattle.lexis.specs.String as string
 use Rattle.lexis.specs.String.{Mode, quoted, unitIn, textAt}
-use Rattle.lexis.specs.Keys.{Key, word, plain, other as odd, keyAt, plainAs, stringAt, sameAs, sameKey, among, restOf}
+use Rattle.lexis.specs.Keys.{Key, word, plain, other as odd, keyAt, plainAs, stringAt, sameAs, sameKey, among, restOf, keyTo}
 use Rattle.lexis.specs.RunLaws.{clash, front, and-left, and-right, stands-one, stands-two, stands-cons, run-on, run-stop, inside, other}
 use Rattle.engine.specs.Base.{Rec, Tree, Trees, recOf, choose, allOf}
 use Rattle.engine.specs.Rule.{Runs, rfin, rmove, ryes, rno, Firm, Local, first, later, Every, every, Everys, enil, econs}
 use Rattle.engine.specs.BaseLaws.{and-t, some-is}
 use Rattle.grammar.specs.Moves
-use Rattle.grammar.specs.Moves.{anExpression, Under, to, place, ident, mark, close, round, closeAs, atom, walk, lone, behindKey, keyTo}
+use Rattle.grammar.specs.Moves.{anExpression, Under, to, place, ident, mark, close, round, closeAs, atom, walk, lone, behindKey}
 use Rattle.grammar.specs.Layouts.{layouts, layoutOf, wordLay, identLay, stringLay}
 use Rattle.grammar.specs.MoveLaws.{to-is, no-to, by-test, not-made}
 use Rattle.grammar.specs.BoundLaws.{one-atom}
@@ -139,10 +140,6 @@ module _ (s : List ℕ) where
   behind-call q (colon e f) = rw (e, f)
 
   -- back: the mark that an item has behind its key
-  or-last : (b : Bool) → (b || true) ≡ true
-  or-last true = refl
-  or-last false = refl
-
   equals-by : (q : ℕ) (a b c m : Bool) → (a && not (b || (c || false))) ≡ true → (not (eqb (cond (a && not (c || (b || false))) (q + 1) q) q) || m) ≡ true
   equals-by q true true c m e = clash (sym e)
   equals-by q true false true m e = clash (sym e)
@@ -154,7 +151,7 @@ module _ (s : List ℕ) where
     where
       go : (isMark (61 ∷ []) ((61 ∷ 61 ∷ []) ∷ (61 ∷ 62 ∷ []) ∷ []) s q ≡ true) ⊎ (isMark (58 ∷ []) ((58 ∷ 58 ∷ []) ∷ []) s q ≡ true) → (not (eqb (equalsTo s q) q) || isMark (58 ∷ []) ((58 ∷ 58 ∷ []) ∷ []) s q) ≡ true
       go (inl e) = equals-by q (stands (61 ∷ []) s q) (stands (61 ∷ 61 ∷ []) s q) (stands (61 ∷ 62 ∷ []) s q) (isMark (58 ∷ []) ((58 ∷ 58 ∷ []) ∷ []) s q) e
-      go (inr e) = rw e (or-last (not (eqb (equalsTo s q) q)))
+      go (inr e) = rw e (bool.or-true (not (eqb (equalsTo s q) q)))
 
   -- ---- a key that may be equal to another: a word, or a plain string
 

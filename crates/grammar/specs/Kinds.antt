@@ -1,9 +1,7 @@
 -- 01's numbers: the kinds of nodes, the refusals, the limits; and the levels of the thirteen operators.
-use Prim.Native.Nat.{ℕ, _-_}
+use Prim.Native.Nat.{ℕ}
 use mathlib.Core.List.{List, [], _∷_}
-use mathlib.Core.Bool.{cond, _&&_}
 use lib.ListN.{getD}
-use lib.Dec.{leb}
 
 -- ---- refusals (01, "Lent room and the answer")
 
@@ -81,7 +79,3 @@ tightOf k = getD tights k 0
 
 abbrev pub holdOf : ℕ → ℕ
 holdOf k = getD holds k 0
-
--- the level of a binary operator's kind, `||` 1 to `* / %` 6; 0 for what is none
-abbrev pub levelOf : ℕ → ℕ
-levelOf k = cond (leb 24 k && leb k 36) (tightOf k - 1) 0

@@ -21,7 +21,7 @@ use Rattle.lexis.specs.Operator.{opAt, isMark, equalsTo}
 use Rattle.lexis.specs.Heredoc.{openerAt, lineAt, lineEnd, freshAt, part}
 use Rattle.lexis.specs.String.{Mode, quoted, heredoc, unitIn, textAt}
 use Rattle.lexis.specs.String as string
-use Rattle.lexis.specs.Keys.{among}
+use Rattle.lexis.specs.Keys.{keyTo, among}
 use Rattle.grammar.specs.Kinds.{Foreign, Unexpected, Escape, Unclosed, Duplicate, Deep, Directive, Index}
 
 -- ---- what a node is under
@@ -180,11 +180,7 @@ textStart aCondition = 0
 
 -- ---- keys
 
--- the end of the token that a key begins with: a word or a plain string
-abbrev pub keyTo : List ℕ → ℕ → ℕ
-keyTo s a = cond (eqb (byteAt s a) 34) (a + 2 + textAt quoted s (a + 1) .width) (identTo s a)
-
--- past the same-line space behind it
+-- past the same-line space behind the token that the key at a begins with
 abbrev pub behindKey : List ℕ → ℕ → ℕ
 behindKey s a = gapTo false s (keyTo s a) .at
 

@@ -14,7 +14,7 @@ use Rattle.lexis.specs.Trivia.{gapTo, item, gap as gap′}
 use Rattle.lexis.specs.RunLaws.{clash, inside as within, next, and-left, and-right, stands-two}
 use Rattle.lexis.specs.Operator.{isMark}
 use Rattle.lexis.specs.String.{Text, textAt}
-use Rattle.lexis.specs.Keys.{among}
+use Rattle.lexis.specs.Keys.{among, keyTo}
 use Rattle.engine.specs.Base.{Rec, Tree, node, Trees, recOf, has, allOf, choose}
 use Rattle.engine.specs.BaseLaws.{and-t, has-all, EqCase, same, other, eqCase, some-is}
 use Rattle.engine.specs.Layout.{bad, fin, move, kid, fork, rep, named}
@@ -22,7 +22,7 @@ use Rattle.engine.specs.Tables.{Called}
 use Rattle.engine.specs.Rule.{Runs, rfin, rmove, rkid, ryes, rno, rrep, rend, Firm, Local, first, later, Every, every, Everys, enil, econs}
 use Rattle.engine.specs.Handed.{Tests, tnil, tcons}
 use Rattle.grammar.specs.Kinds.{tightOf, holdOf}
-use Rattle.grammar.specs.Moves.{Want, anExpression, aName, anItem, aPart, aPiece, aCondition, Under, Step, to, no, then, place, Space, any, line, here, Atom, gap, mark, opens, word, ahead, for, ident, number, index, operator, parts, unless, comma, stop, ended, call, fresh, ending, run, piece, more, close, atom, Move, walk, round, runs, token, when, marks, skip, linesIn, lone, behindKey, keyTo}
+use Rattle.grammar.specs.Moves.{Want, anExpression, aName, anItem, aPart, aPiece, aCondition, Under, Step, to, no, then, place, Space, any, line, here, Atom, gap, mark, opens, word, ahead, for, ident, number, index, operator, parts, unless, comma, stop, ended, call, fresh, ending, run, piece, more, close, atom, Move, walk, round, runs, token, when, marks, skip, linesIn, lone, behindKey}
 use Rattle.grammar.specs.Moves as moves
 use Rattle.grammar.specs.Layouts.{Class, inside, single, key, value, test, branch, term, right, entry, called, portion, piecewise, filter, Layout, layouts, layoutOf, itemLay, pieceLay}
 use Rattle.grammar.specs.Hcl.{hcl, under, pickAt, followAt, downs, fits, grows, bare}

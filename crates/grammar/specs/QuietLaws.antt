@@ -3,6 +3,7 @@ use Prim.Native.Nat.{ℕ, _+_}
 use mathlib.Core.Path.{_≡_, refl, sym, ap, _∙_, subst}
 use mathlib.Core.List.{List, [], _∷_, _++_}
 use mathlib.Core.Bool.{Bool, true, false, cond, not, _&&_, _||_}
+use mathlib.Core.Bool as bool
 use mathlib.Core.Option.{none}
 use mathlib.Core.Logic.{_⊎_, inl, inr}
 use lib.ListN.{length, drop}
@@ -48,11 +49,7 @@ any-on (w ∷ l) u s p e f = go (or-true (begins w u) (anyOf l u 0) e) (any-on l
   where
     go : (begins w u ≡ true) ⊎ (anyOf l u 0 ≡ true) → (anyOf l u 0 ≡ true → stands u s p ≡ true → anyOf l s p ≡ true) → (stands w s p || anyOf l s p) ≡ true
     go (inl g) ih = rw (begins-on w u (drop p s) g f)
-    go (inr g) ih = rw (ih g f) (or-last (stands w s p))
-      where
-        or-last : (b : Bool) → (b || true) ≡ true
-        or-last true = refl
-        or-last false = refl
+    go (inr g) ih = rw (ih g f) (bool.or-true (stands w s p))
 
 module _ (s : List ℕ) where
   -- a word

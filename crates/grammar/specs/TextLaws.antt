@@ -134,7 +134,7 @@ choose-chosen k ((false, n) ∷ xs) e = go (eqb n k) (choose-chosen k xs e)
     go true h = h
     go false h = h
 
-or-none : (b : Bool) → (b || false) ≡ true → b ≡ true
+pub or-none : (b : Bool) → (b || false) ≡ true → b ≡ true
 or-none true e = e
 or-none false e = e
 

@@ -1,6 +1,6 @@
 // 01's numbers: kinds of nodes, refusals and limits.
 ghost use mathlib.Core.Path.{_≡_};
-ghost use Rattle.grammar.specs.Kinds.{tightOf, levelOf};
+ghost use Rattle.grammar.specs.Kinds.{tightOf};
 
 // A kind of node.
 pub struct Kind(pub u16);
@@ -183,17 +183,4 @@ pub fn tight(kind: u16) -> u8
         42 => 9,
         _ => 0,
     }
-}
-
-// The level of an operator's kind, 1 to 6; 0 for what is no operator.
-pub fn level(kind: u16) -> u8
-    ensures { λ r. ⌜ r ≡ levelOf kind ⌝ }
-{
-    if kind < Kind::MULTIPLY {
-        return 0;
-    }
-    if Kind::OR < kind {
-        return 0;
-    }
-    tight(kind) - 1
 }

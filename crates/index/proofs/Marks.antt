@@ -19,7 +19,7 @@ use Rattle.lexis.proofs.Units.{Bytewise, Sound, unit-sound}
 use Rattle.lexis.proofs.Texts.{step, stop, bytewise-drop}
 use Rattle.lexis.proofs.Writes.{unpack}
 use Rattle.lexis.proofs.Sames.{rest-on, rest-off}
-use Rattle.index.specs.Mark.{mixed, mixedAll, markAt, Mixed, WordTo, tokenTo, TokenHere}
+use Rattle.index.specs.Mark.{mixed, mixedAll, markAt, Mixed, WordTo, TokenHere}
 
 -- the bytes l are mixed into m₀; those of `rest` are left, and m is the mark of the others
 pub record Mixing (m₀ : ℕ) (l rest : List ℕ) (m : ℕ) : Type 0 where

@@ -8,7 +8,7 @@ use lib.Dec.{eqb}
 use Rattle.lexis.specs.Bytes.{byteAt, isStart}
 use Rattle.lexis.specs.Word.{identTo}
 use Rattle.lexis.specs.String.{quoted, textAt}
-use Rattle.lexis.specs.Keys.{restOf}
+use Rattle.lexis.specs.Keys.{restOf, keyTo}
 use Rattle.index.specs.declared.mark.Token.{Token}
 
 -- a byte more
@@ -36,11 +36,7 @@ pub record WordTo (s : List ℕ) (p e : ℕ) : Type 0 where
   pub starts : isStart (byteAt s p) ≡ true
   pub ends : e ≡ identTo s p
 
--- where the first token of the key at p ends: a word or a plain string
-abbrev pub tokenTo : List ℕ → ℕ → ℕ
-tokenTo s p = cond (eqb (byteAt s p) 34) (p + 2 + textAt quoted s (p + 1) .width) (identTo s p)
-
--- `r` is that token's end, and the key's mark
+-- `r` is where the first token of the key at p ends, and the key's mark
 pub record TokenHere (s : List ℕ) (p : ℕ) (r : Token) : Type 0 where
-  pub end : r .end ≡ tokenTo s p
+  pub end : r .end ≡ keyTo s p
   pub mark : r .mark ≡ markAt s p

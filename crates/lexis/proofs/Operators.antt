@@ -2,7 +2,7 @@
 use Prim.Native.Nat.{ℕ, _+_, _*_, _<_}
 use mathlib.Core.Path.{_≡_, refl, sym, ap, _∙_}
 use mathlib.Core.List.{List, [], _∷_}
-use mathlib.Core.Bool.{Bool, true, false, cond, not, _&&_, _||_}
+use mathlib.Core.Bool.{Bool, true, false, cond, not, _&&_, _||_, or-false}
 use lib.ListN.{length}
 use lib.Dec.{eqb, leb, leb→le}
 use borrow.Author.Tests.{ne-eqb}
@@ -111,10 +111,6 @@ module _ (w : List ℕ) (longer : List (List ℕ)) (s : List ℕ) (p : ℕ) wher
 pub lone : (a b : ℕ) (s : List ℕ) (p : ℕ) {v : Bool} → a < 256 → stands (a ∷ []) s p ≡ true → stands (b ∷ []) s (p + 1) ≡ v
     → markTo (a ∷ []) ((a ∷ b ∷ []) ∷ []) s p ≡ cond (not v) (p + 1) p
 lone a b s p {v} l e f = mark-by (a ∷ []) ((a ∷ b ∷ []) ∷ []) s p e (ap (λ (x : Bool). x || false) (sym (stands-on a (b ∷ []) s p l e (sym f))) ∙ or-false v)
-  where
-    or-false : (x : Bool) → (x || false) ≡ x
-    or-false true = refl
-    or-false false = refl
 
 -- `=`, by the byte behind it
 equals-by : (s : List ℕ) (p : ℕ) → stands (61 ∷ []) s p ≡ true

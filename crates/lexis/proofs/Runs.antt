@@ -2,7 +2,7 @@
 use Prim.Native.Nat.{ℕ, suc, _+_, _<_, _≤_}
 use mathlib.Core.Path.{_≡_, refl, sym, ap, _∙_}
 use mathlib.Core.List.{List, [], _∷_}
-use mathlib.Core.Bool.{Bool, true, false, cond, _&&_, _||_}
+use mathlib.Core.Bool.{Bool, true, false, cond, _&&_, _||_, and-true, or-true, or-false}
 use native.Mathlib.Numerals.{add-one}
 use native.Mathlib.Nat.{add-zero}
 use native.Mathlib.Omega.{arith}
@@ -62,23 +62,11 @@ module _ (w s : List ℕ) (p : ℕ) where
       pub all-fails : stands (getD w i 0 ∷ []) s (p + i) ≡ false → stands (drop i w) s (p + i) ≡ stands w s p → stands w s p ≡ false
       all-fails e f = sym f ∙ rw (drop-cons w i 0) (stands-off (getD w i 0) (drop (suc i) w) s (p + i) l e)
 
-or-true : (x : Bool) → (x || true) ≡ true
-or-true true = refl
-or-true false = refl
-
 -- a small letter is an identifier character
 pub small-rest : (b : ℕ) → isWithin 97 122 b ≡ true → isRest b ≡ true
 small-rest b e = rw (e, or-true (leb 65 b && leb b 90))
 
 -- identifier characters, by where a byte lies: below `-`, up to the digits, or behind them
-or-none : (x : Bool) → (x || false) ≡ x
-or-none true = refl
-or-none false = refl
-
-and-all : (x : Bool) → (x && true) ≡ x
-and-all true = refl
-and-all false = refl
-
 module _ (b : ℕ) where
   pub rest-below : b < 45 → false ≡ isRest b
   rest-below h = sym (rw (lt-leb 65 b (omega arith), lt-leb 97 b (omega arith), ne-eqb b 95 (λ z. omega arith), lt-leb 48 b (omega arith), ne-eqb b 45 (λ z. omega arith)))
@@ -87,7 +75,7 @@ module _ (b : ℕ) where
   rest-dash e = rw e
 
   pub rest-digit : b < 58 → (b ≡ 45 → ⊥) → leb 48 b ≡ isRest b
-  rest-digit h n = sym (rw (lt-leb 65 b (omega arith), lt-leb 97 b (omega arith), ne-eqb b 95 (λ z. omega arith), le-leb b 57 (omega arith), ne-eqb b 45 n) (or-none (leb 48 b && true) ∙ and-all (leb 48 b)))
+  rest-digit h n = sym (rw (lt-leb 65 b (omega arith), lt-leb 97 b (omega arith), ne-eqb b 95 (λ z. omega arith), le-leb b 57 (omega arith), ne-eqb b 45 n) (or-false (leb 48 b && true) ∙ and-true (leb 48 b)))
 
   pub rest-start : 58 ≤ b → isStart b ≡ isRest b
-  rest-start h = sym (rw (le-leb 48 b (omega arith), lt-leb b 57 (omega arith), ne-eqb b 45 (λ z. omega arith)) (or-none (isStart b || false) ∙ or-none (isStart b)))
+  rest-start h = sym (rw (le-leb 48 b (omega arith), lt-leb b 57 (omega arith), ne-eqb b 45 (λ z. omega arith)) (or-false (isStart b || false) ∙ or-false (isStart b)))

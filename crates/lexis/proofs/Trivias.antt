@@ -4,8 +4,9 @@ use mathlib.Core.Path.{_≡_, refl, sym, ap, _∙_}
 use mathlib.Core.List.{List, [], _∷_}
 use mathlib.Core.Bool.{Bool, true, false, cond, _&&_, _||_}
 use native.Mathlib.Nat.{add-zero}
+use native.Mathlib.Decide.{decLt}
 use native.Mathlib.Omega.{arith}
-use lib.ListN.{length, drop}
+use lib.ListN.{length, getD, drop}
 use lib.Dec.{eqb, ltb}
 use lib.Seq.{drop-drop}
 use borrow.Author.Tests.{ne-eqb, lt-ltb, eqb-true}
@@ -13,7 +14,7 @@ use Rattle.lexis.specs.declared.trivia.Gap.{Gap}
 use Rattle.lexis.specs.declared.trivia.Stop.{Stop}
 use Rattle.lexis.specs.Bytes.{byteAt, isSpace, begins, stands, upTo}
 use Rattle.lexis.specs.Trivia.{ending, endsLine, opensComment, comment, Item, none, wide, endless, blockAs, closes, block, lineItem, item, endsAt, openAt, placed, gap, gapTo, Ending, Gapped, stopAt, stopComment, lineComment, stopTo}
-use Rattle.lexis.specs.RunLaws.{clash, and-right, stands-cons, stands-one, stands-two, here, reach, reach-on, reach-stop, front, next, empty, left}
+use Rattle.lexis.specs.RunLaws.{default, clash, and-right, stands-cons, stands-one, stands-two, stands-inside, here, reach, reach-on, reach-stop, front, next, empty, left}
 use Rattle.lexis.specs.TriviaLaws.{item-nil, comment-end, gap-low, gap-high, gap-inside}
 
 -- the width of a line comment with its ending
@@ -101,6 +102,28 @@ module _ (s : List ℕ) (p : ℕ) where
 
   pub line-on : {w : ℕ} → Ending s p w → w ≡ 0 → endsLine (drop p s) ≡ false
   line-on h e = rw (← h .is, e)
+
+  -- whether a block comment ends at p, by the two bytes there; nothing closes it at the source's last byte
+  module _ (h : p + 1 < length s) where
+    closes-is : closes (drop p s) ≡ (eqb (getD s p 0) 42 && eqb (getD s (p + 1) 0) 47)
+    closes-is = stands-two 42 47 s p refl refl ∙ rw (default s p 256 0 (omega arith), default s (p + 1) 256 0 h)
+
+    pub closes-here : getD s p 0 ≡ 42 → getD s (p + 1) 0 ≡ 47 → closes (drop p s) ≡ true
+    closes-here e f = closes-is ∙ rw (e, f)
+
+    pub closes-half : getD s p 0 ≡ 42 → (getD s (p + 1) 0 ≡ 47 → ⊥) → closes (drop p s) ≡ false
+    closes-half e n = closes-is ∙ rw (e, ne-eqb (getD s (p + 1) 0) 47 n)
+
+    pub closes-not : (getD s p 0 ≡ 42 → ⊥) → closes (drop p s) ≡ false
+    closes-not n = closes-is ∙ rw (ne-eqb (getD s p 0) 42 n)
+
+  pub closes-late : length s ≤ p + 1 → length s ≤ reach closes s p
+  closes-late h = go (decLt p (length s)) (closes (drop p s)) refl
+    where
+      go : Dec (p < length s) → (b : Bool) → closes (drop p s) ≡ b → length s ≤ reach closes s p
+      go (no l) b e = omega arith
+      go (yes l) true e = absurd (omega (arith, stands-inside (42 ∷ 47 ∷ []) s p e))
+      go (yes l) false e = omega (arith, reach-on closes s p l e)
 
   -- a block comment whose text ends at i
   block-at : {i : ℕ} → reach closes s (p + 2) ≡ i → block (drop (p + 2) s) ≡ blockAs (upTo closes (drop (p + 2) s)) (drop i s)

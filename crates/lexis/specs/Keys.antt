@@ -7,6 +7,7 @@ use lib.Dec.{eqb}
 use Rattle.lexis.specs.Bytes.{byteAt, isStart, isRest, run}
 use Rattle.lexis.specs.Heredoc.{part}
 use Rattle.lexis.specs.String.{quoted, textAt}
+use Rattle.lexis.specs.Word.{identTo}
 use Rattle.lexis.specs.declared.string.Why.{Why}
 use Rattle.lexis.specs.declared.string.Why.the-variants.{Quote, Interpolation, Directive, Escape, Closing, Foreign, End}
 
@@ -42,6 +43,10 @@ unfoldable pub keyAt : List ℕ → ℕ → Key
 keyAt s p =
     cond (isStart (byteAt s p)) (word (restOf (drop p s)))
     (cond (eqb (byteAt s p) 34) (stringAt s (p + 1)) other)
+
+-- where the token ends that the key at p begins with: a word or a plain string
+abbrev pub keyTo : List ℕ → ℕ → ℕ
+keyTo s p = cond (eqb (byteAt s p) 34) (p + 2 + textAt quoted s (p + 1) .width) (identTo s p)
 
 -- two lists of bytes are equal
 unfoldable pub alike : List ℕ → List ℕ → Bool

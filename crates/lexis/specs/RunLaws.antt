@@ -2,7 +2,7 @@
 use Prim.Native.Nat.{ℕ, zero, suc, _+_, _*_, _-_, _≤_, _<_}
 use mathlib.Core.Path.{_≡_, refl, sym, ap, _∙_}
 use mathlib.Core.List.{List, [], _∷_}
-use mathlib.Core.Bool.{Bool, true, false, cond, _&&_, _||_}
+use mathlib.Core.Bool.{Bool, true, false, cond, _&&_, _||_, and-true}
 use native.Mathlib.Numerals.{add-one}
 use native.Mathlib.Nat.{add-zero}
 use native.Mathlib.Omega.{arith}
@@ -109,10 +109,6 @@ and-left false y e = e
 pub and-right : (x y : Bool) → (x && y) ≡ true → y ≡ true
 and-right true y e = e
 and-right false y e = clash (sym e)
-
-and-true : (x : Bool) → (x && true) ≡ x
-and-true true = refl
-and-true false = refl
 
 pub stands-one : (b : ℕ) (s : List ℕ) (p : ℕ) → eqb 256 b ≡ false → stands (b ∷ []) s p ≡ eqb (byteAt s p) b
 stands-one b s p n = stands-cons b [] s p n ∙ rw (stands-none s (p + 1)) (and-true (eqb (byteAt s p) b))

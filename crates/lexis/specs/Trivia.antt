@@ -132,6 +132,13 @@ stop p xs =
 abbrev pub stopTo : List ℕ → ℕ → Stop
 stopTo s p = stop p (drop p s)
 
+-- `r` is the first LF at or after p, or the source's end: a line comment whose text goes on at p is the same from there
+pub record Lined (s : List ℕ) (p r : ℕ) : Type 0 where
+  pub is : lineComment r (drop r s) ≡ lineComment p (drop p s)
+  pub lf : suc r ≤ length s → byteAt s r ≡ 10
+  pub low : p ≤ r
+  pub high : r ≤ p + (length s - p)
+
 -- `r` is where the line comment ends whose text goes on at p
 pub record Commented (s : List ℕ) (p : ℕ) (r : Stop) : Type 0 where
   pub is : r ≡ lineComment p (drop p s)

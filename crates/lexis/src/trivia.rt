@@ -2,13 +2,12 @@
 use crate::bytes::byte_at;
 use crate::bytes::is_space;
 use crate::bytes::one_at;
-use crate::bytes::two_at;
 ghost use mathlib.Core.Path.{_≡_};
 ghost use mathlib.Core.Bool.{true, false};
 ghost use Prim.Native.Nat.{_+_, _≤_};
 ghost use lib.ListN.{length, drop};
 ghost use Rattle.lexis.specs.Bytes.{byteAt};
-ghost use Rattle.lexis.specs.Trivia.{block, opensComment, Ending, Placed, Itemed, Gapped, Commented, Stopped};
+ghost use Rattle.lexis.specs.Trivia.{block, opensComment, Ending, Placed, Itemed, Gapped, Lined, Commented, Stopped};
 
 // Where trivia ends, or where the block comment starts that nothing closes.
 pub struct Gap {
@@ -53,19 +52,30 @@ pub fn line_ending(s: &[u8], p: usize) -> usize
     ending_of(s, p, b)
 }
 
+// The first LF from p on, or the source's end. A function of its own: within line_comment its loop costs more for each byte.
+fn lf_at(s: &[u8], p: usize) -> usize
+    ensures { λ r. ⌜ Lined (now (s .entry)) p r ⌝ }
+{
+    let mut i = p;
+    while i < s.len() {
+        if s[i] == 10 {
+            return i;
+        }
+        i += 1;
+    }
+    i
+}
+
 // The line comment whose text goes on at p: behind its line ending, or at the source's end, which cuts it.
 fn line_comment(s: &[u8], p: usize) -> Stop
     ensures { λ r. ⌜ Commented (now (s .entry)) p r ⌝ }
 {
-    let mut i = p;
-    while i < s.len() {
-        if byte_at(s, i) == 10 {
-            return Stop {
-                at: i + 1,
-                how: Stop::END,
-            };
-        }
-        i += 1;
+    let i = lf_at(s, p);
+    if i < s.len() {
+        return Stop {
+            at: i + 1,
+            how: Stop::END,
+        };
     }
     Stop {
         at: i,
@@ -79,12 +89,14 @@ fn block_comment(s: &[u8], p: usize) -> Gap
     ensures { λ r. ⌜ Placed (block (drop (p + 2) (now (s .entry)))) (now (s .entry)) p r ⌝ }
 {
     let mut i = p + 2;
-    while i < s.len() {
-        if two_at(s, i, 42, 47) {
-            return Gap {
-                at: i + 2,
-                unclosed: false,
-            };
+    while i + 1 < s.len() {
+        if s[i] == 42 {
+            if s[i + 1] == 47 {
+                return Gap {
+                    at: i + 2,
+                    unclosed: false,
+                };
+            }
         }
         i += 1;
     }

@@ -258,12 +258,8 @@ module _ {s : List ℕ} {left : ℕ} {lines : Bool} {p i u : ℕ} {b b′ x x′
 
 -- ---- an array by its kind
 
-or-none : (b : Bool) → (b || false) ≡ true → b ≡ true
-or-none true e = e
-or-none false e = e
-
 pub array-square : (s : List ℕ) (left : ℕ) (lines : Bool) (p k : ℕ) → k ≡ 11 → pickAt s (under left lines anExpression) p ≡ some k → byteAt s p ≡ 91
-array-square s left lines p k f q = eqb-true (byteAt s p) 91 (or-none (eqb (byteAt s p) 91) (text.pick-chosen s left lines p 11 (q ∙ ap some f)))
+array-square s left lines p k f q = eqb-true (byteAt s p) 91 (text.or-none (eqb (byteAt s p) 91) (text.pick-chosen s left lines p 11 (q ∙ ap some f)))
 
 module _ {k : ℕ} (e : k ≡ 11) {s : List ℕ} {left : ℕ} {lines : Bool} {p i u K : ℕ} where
   pub array-as : {b b′ x x′ y y′ : List ℕ} {r : Step} → SaidMade Any s (underAny 11 left lines) p anyBefore 11 (layoutOf 11) p i u 0 p K b b′ x x′ y y′ r → SaidMade Any s (underAny k left lines) p anyBefore k (layoutOf k) p i u 0 p K b b′ x x′ y y′ r

@@ -1,7 +1,7 @@
 -- A key that is a lone variable: which trees are one, and its record put anew as 14.
 use Prim.Native.Nat.{ℕ, suc, _+_, _*_, _/_, _<_}
 use mathlib.Core.Path.{_≡_, refl, sym, ap, subst, _∙_}
-use mathlib.Core.Bool.{Bool, true, false, cond, not, _&&_, _||_}
+use mathlib.Core.Bool.{Bool, true, false, cond, not, _&&_, _||_, and-false}
 use mathlib.Core.Option.{Option, none, some}
 use mathlib.Core.List.{List, [], _∷_}
 use native.Mathlib.Omega.{arith}
@@ -94,10 +94,6 @@ digit-start b = go (leb 65 b) (leb 97 b) (eqb b 95) (leb 48 b) (leb b 57) (leb b
   where
     go : (u v w x y m n : Bool) → leb 65 b ≡ u → leb 97 b ≡ v → eqb b 95 ≡ w → leb 48 b ≡ x → leb b 57 ≡ y → (((u && m) || (v && n)) || w) ≡ true → (x && y) ≡ false
     go u v w x false m n e₁ e₂ e₃ e₄ e₅ h = and-false x
-      where
-        and-false : (x : Bool) → (x && false) ≡ false
-        and-false true = refl
-        and-false false = refl
     go u v w false true m n e₁ e₂ e₃ e₄ e₅ h = refl
     go true v w true true m n e₁ e₂ e₃ e₄ e₅ h = absurd (omega (arith, leb-true 65 b e₁, leb-true b 57 e₅))
     go false true w true true m n e₁ e₂ e₃ e₄ e₅ h = absurd (omega (arith, leb-true 97 b e₂, leb-true b 57 e₅))

@@ -48,20 +48,16 @@ choose-chosen k ((false, n) ∷ xs) e = go (eqb n k) (choose-chosen k xs e)
     go true h = h
     go false h = h
 
-or-none : (b : Bool) → (b || false) ≡ true → b ≡ true
-or-none true e = e
-or-none false e = e
-
 module _ (s : List ℕ) (p : ℕ) where
   picked : {k : ℕ} → PartAt s p k → ¬ (k ≡ 0) → chosen k (portions s p) ≡ true
   unfolding pickAt
   picked {k} at n = choose-chosen k (portions s p) (kind-some (pickAt s (under 0 true aPart) p) k (sym (at 0 true)) n)
 
   pub part-dot : {k : ℕ} → PartAt s p k → k ≡ 38 → byteAt s p ≡ 46
-  part-dot {k} at e = eqb-true (byteAt s p) 46 (or-none (eqb (byteAt s p) 46) (ap (λ (n : ℕ). chosen n (portions s p)) (sym e) ∙ picked at (λ z. absurd (let w : _≡_ {A = ℕ} 0 38 = sym z ∙ e in omega arith))))
+  part-dot {k} at e = eqb-true (byteAt s p) 46 (text.or-none (eqb (byteAt s p) 46) (ap (λ (n : ℕ). chosen n (portions s p)) (sym e) ∙ picked at (λ z. absurd (let w : _≡_ {A = ℕ} 0 38 = sym z ∙ e in omega arith))))
 
   pub part-square : {k : ℕ} → PartAt s p k → k ≡ 42 → byteAt s p ≡ 91
-  part-square {k} at e = eqb-true (byteAt s p) 91 (or-none (eqb (byteAt s p) 91) (ap (λ (n : ℕ). chosen n (portions s p)) (sym e) ∙ picked at (λ z. absurd (let w : _≡_ {A = ℕ} 0 42 = sym z ∙ e in omega arith))))
+  part-square {k} at e = eqb-true (byteAt s p) 91 (text.or-none (eqb (byteAt s p) 91) (ap (λ (n : ℕ). chosen n (portions s p)) (sym e) ∙ picked at (λ z. absurd (let w : _≡_ {A = ℕ} 0 42 = sym z ∙ e in omega arith))))
 
 -- ---- a part
 

@@ -1,7 +1,7 @@
 -- What the functions round an object's items find.
 use Prim.Native.Nat.{ℕ, zero, suc, _+_, _-_, _≤_, _<_}
 use mathlib.Core.Path.{_≡_, refl, sym, ap, _∙_}
-use mathlib.Core.Bool.{Bool, true, false, cond, not, _&&_, _||_, and-true}
+use mathlib.Core.Bool.{Bool, true, false, cond, not, _&&_, _||_, and-true, and-false}
 use mathlib.Core.List.{List, [], _∷_}
 use native.Mathlib.Omega.{arith}
 use lib.ListN.{length, drop}
@@ -14,9 +14,10 @@ use Rattle.lexis.specs.Trivia.{Gapped, Stopped, gapTo, stop, stopAt, stopCommen
 use Rattle.lexis.specs.Operator.{isMark, equalsTo}
 use Rattle.lexis.specs.Word.{constantAt}
 use Rattle.lexis.specs.RunLaws.{stands-one, stands-inside}
+use Rattle.lexis.specs.Keys.{keyTo}
 use Rattle.grammar.specs.declared.moves.Went.{Went}
 use Rattle.grammar.specs.Kinds.{Unexpected, Foreign}
-use Rattle.grammar.specs.Moves.{Step, to, no, then, when, unexpected, skip, stopStep, marks, behindKey, keyTo, lone}
+use Rattle.grammar.specs.Moves.{Step, to, no, then, when, unexpected, skip, stopStep, marks, behindKey, lone}
 use Rattle.grammar.specs.Said.{went, wentOf, Moved}
 use Rattle.reader.specs.declared.items.Sign.{Sign}
 use Rattle.reader.specs.Items.{metIn, behindItem, signStep, equalsStep, Signed, equals, colon, neither, Behind, SignedAt, isBare, bared}
@@ -90,16 +91,12 @@ module _ {s : List ℕ} {e : ℕ} {g : Went} (sp : Moved s e false g) where
 
 -- ---- keys that were met
 
-and-no : (x : Bool) → (x && false) ≡ false
-and-no true = refl
-and-no false = refl
-
 key-place : {s : List ℕ} (p : ℕ) {e : ℕ} {w : Gap} → e ≡ keyTo s p → Gapped false s e w → w .at ≡ behindKey s p
 key-place {s} p key gap = ap (λ (x : Gap). x .at) (gap .is) ∙ ap (λ (x : ℕ). (gapTo false s x) .at) key
 
 module _ (s y : List ℕ) (first k p g : ℕ) {r : Bool} (f : r ≡ metIn s y first k p) where
   pub not-met : r ≡ false → false ≡ (eqb (behindKey s p) g && metIn s y first k p)
-  not-met n = let h : metIn s y first k p ≡ false = sym f ∙ n in sym (rw h (and-no (eqb (behindKey s p) g)))
+  not-met n = let h : metIn s y first k p ≡ false = sym f ∙ n in sym (rw h (and-false (eqb (behindKey s p) g)))
 
   pub met-here : {e : ℕ} {w : Gap} → r ≡ true → e ≡ keyTo s p → Gapped false s e w → eqb (w .at) g ≡ (eqb (behindKey s p) g && metIn s y first k p)
   met-here {w = w} n key gap =
@@ -214,10 +211,6 @@ bared-not s b i n p e h = rw h
 
 pub bare-many : (s : List ℕ) (p n : ℕ) → ¬ (n ≡ 1) → isBare s p n ≡ false
 bare-many s p n h = rw (ne-eqb n 1 h)
-
-and-false : (x : Bool) → (x && false) ≡ false
-and-false true = refl
-and-false false = refl
 
 module _ {s : List ℕ} {p b : ℕ} (n : ℕ) (h : Byte s p b) where
   pub bare-none : isStart b ≡ false → isBare s p n ≡ false

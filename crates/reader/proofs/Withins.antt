@@ -20,7 +20,7 @@ use Rattle.grammar.specs.Layouts.{Layout, layouts, layoutOf, inside, opening, s
 use Rattle.grammar.specs.Hcl.{under, pickAt}
 use Rattle.grammar.specs.Table.{recordOf}
 use Rattle.grammar.specs.Said.{wentOf, Moved, PartAt}
-use Rattle.grammar.specs.TextLaws.{pick-chosen}
+use Rattle.grammar.specs.TextLaws.{pick-chosen, or-none}
 use Rattle.reader.specs.Buffer.{putAt}
 use Rattle.reader.specs.Said.{stepOf, Climbs, Kept, Any, underAny, anyBefore, Said, SaidMade, Asked, Closing, Bracketed}
 use Rattle.reader.proofs.Stages.{stage-move}
@@ -36,10 +36,6 @@ round-lays = refl
 square-lays : layoutOf 42 ≡ move (opening (91 ∷ [])) (move space (kid inside (move (past (93 ∷ [])) (fin 0))))
 unfolding layouts
 square-lays = refl
-
-or-none : (b : Bool) → (b || false) ≡ true → b ≡ true
-or-none true e = e
-or-none false e = e
 
 pub bracketed-round : (s : List ℕ) (left : ℕ) (lines : Bool) (p k : ℕ) → k ≡ 15 → pickAt s (under left lines anExpression) p ≡ some k → Bracketed s p k 41
 bracketed-round s left lines p k f q =

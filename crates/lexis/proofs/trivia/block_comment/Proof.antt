@@ -1,11 +1,11 @@
 -- The loop keeps the place that the comment's text reaches.
 use Prim.Native.Nat.{_≤_, _+_, _-_}
-use Rattle.lexis.specs.RunLaws.{reach, reach-on, reach-stop, reach-end, stands-inside}
-use Rattle.lexis.proofs.Trivias.{block-found, block-endless}
+use Rattle.lexis.specs.RunLaws.{reach, reach-on, reach-stop}
+use Rattle.lexis.proofs.Trivias.{closes-here, closes-not, closes-half, closes-late, block-found, block-endless}
 use Rattle.lexis.specs.Trivia.{closes}
 use borrow.Author.Needs.{needs}
 use lib.ListN.{length}
-use mathlib.Core.List.{[], _∷_}
+use mathlib.Core.Logic.{⊎-elim}
 use mathlib.Core.Path.{_≡_, refl, sym, _∙_}
 use native.Mathlib.Omega.{arith}
 use Rattle.lexis.proofs.trivia.block_comment.Statement.{statement}
@@ -20,24 +20,25 @@ abbrev μ-loop : tie.MeasureT-loop
 loop-holds : tie.Need-loop-holds Inv-loop μ-loop
 loop-holds c = (omega arith, omega arith, refl)
 
-add-t7 : tie.Need-add-t7 Inv-loop μ-loop
-add-t7 c = omega (arith, stands-inside (42 ∷ 47 ∷ []) (c .before .before .before .before .before .args .s .now) (c .before .before .before .loop .i) (sym (c .before .two-at .ensures) ∙ (c .if1 .taken)))
-
 returns : tie.Need-returns Inv-loop μ-loop
-returns c = let a = c .before .before .before .before .before .args in
+returns c = let a = c .before .before .before .before .before .before .args in
+    let h = c .before .before .before .before .loop-test .taken in
     record {
-      is = sym (block-found (a .s .now) (a .p) (c .before .before .loop-test .taken) (sym (c .before .before .before .loop .inv .2) ∙ reach-stop closes _ _ (sym (c .before .two-at .ensures) ∙ (c .if1 .taken))));
+      is = sym (block-found (a .s .now) (a .p) (omega (arith, h)) (sym (c .before .before .before .before .before .loop .inv .2) ∙ reach-stop closes _ _ (closes-here (a .s .now) _ h (c .before .before .if1 .taken) (c .if2 .taken))));
       low = omega arith;
-      high = omega (arith, stands-inside (42 ∷ 47 ∷ []) (a .s .now) (c .before .before .before .loop .i) (sym (c .before .two-at .ensures) ∙ (c .if1 .taken)));
+      high = omega arith;
     }
 
 loop-again : tie.Need-loop-again Inv-loop μ-loop
-loop-again c = (omega arith, omega arith, reach-on closes _ _ (c .before .before .loop-test .taken) (sym (c .before .two-at .ensures) ∙ (c .if1 .left)) ∙ (c .before .before .before .loop .inv .2))
+loop-again c = let s = c .before .before .before .before .args .s .now in
+    let i = c .before .before .before .loop .i in
+    let h = c .before .before .loop-test .taken in
+    (omega arith, omega arith, reach-on closes s i (omega (arith, h)) (⊎-elim (λ w. closes-half s i h (w .0 .taken) (w .2 .left)) (λ w. closes-not s i h (w .left)) (c .if1 .came)) ∙ (c .before .before .before .loop .inv .2))
 
 returns-2 : tie.Need-returns-2 Inv-loop μ-loop
-returns-2 c = let a = c .before .before .before .args in
+returns-2 c = let a = c .before .before .args in
     record {
-      is = sym (block-endless (a .s .now) (a .p) (c .loop-test .left) (sym (c .before .loop .inv .2) ∙ reach-end closes _ _ (c .loop-test .left)));
+      is = sym (block-endless (a .s .now) (a .p) (omega (arith, closes-late (a .s .now) (c .before .loop .i) (c .loop-test .left), (c .before .loop .inv .2))) refl);
       low = omega arith;
       high = omega arith;
     }
@@ -50,8 +51,11 @@ block-comment-spec =
     μ-loop
     (λ c. search needs)
     loop-holds
-    (λ c κs. search needs)
-    add-t7
+    (λ c. search needs)
+    (λ c. search needs)
+    (λ c. search needs)
+    (λ c. search needs)
+    (λ c. search needs)
     returns
     (λ c. search needs)
     (λ c. search needs)
