@@ -13,10 +13,11 @@ use Rattle.lexis.specs.Bytes.{byteAt, isStart, isRest, stands, Ran, runTo}
 use Rattle.lexis.specs.Trivia.{gapTo}
 use Rattle.lexis.specs.Word.{identTo, isWord, null, yes, constantAt}
 use Rattle.lexis.specs.Word as words
+use Rattle.lexis.specs.Keys.{keyTo}
 use Rattle.lexis.specs.RunLaws.{clash, run-high, inside, stands-one}
 use Rattle.index.specs.declared.mark.Token.{Token}
 use Rattle.index.specs.Mark.{TokenHere}
-use Rattle.grammar.specs.Moves.{lone, keyTo, behindKey}
+use Rattle.grammar.specs.Moves.{lone, behindKey}
 use Rattle.grammar.specs.KeyLaws.{lone-behind, behind-call, word-ends, start-digit}
 use Rattle.grammar.specs.Said.{callsAt}
 use Rattle.grammar.specs.Alone.{headOf, HeadAt}

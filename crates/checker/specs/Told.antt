@@ -5,7 +5,8 @@ use mathlib.Core.List.{List}
 use mathlib.Core.Bool.{Bool, true}
 use mathlib.Core.Logic.{_⊎_}
 use lib.ListN.{length, getD}
-use Rattle.grammar.specs.Moves.{lone, keyTo}
+use Rattle.lexis.specs.Keys.{keyTo}
+use Rattle.grammar.specs.Moves.{lone}
 use Rattle.checker.specs.Rows.{rowAt}
 
 -- a key that stands alone starts where the row k does, and its first token ends where that does
