@@ -2,7 +2,7 @@
 use Prim.Native.Nat.{ℕ, zero, suc, _+_, _-_, _≤_, _<_}
 use mathlib.Core.Path.{_≡_, refl, sym, ap, _∙_}
 use mathlib.Core.List.{List, [], _∷_}
-use mathlib.Core.Bool.{Bool, true, false, cond, _&&_, _||_}
+use mathlib.Core.Bool.{Bool, true, false, cond, _&&_, _||_, and-false}
 use native.Mathlib.Nat.{add-zero}
 use native.Mathlib.Decide.{decLt}
 use native.Mathlib.Omega.{arith}
@@ -103,19 +103,21 @@ module _ (s : List ℕ) (p : ℕ) where
   pub line-on : {w : ℕ} → Ending s p w → w ≡ 0 → endsLine (drop p s) ≡ false
   line-on h e = rw (← h .is, e)
 
-  -- whether a block comment ends at p, by the two bytes there; nothing closes it at the source's last byte
-  module _ (h : p + 1 < length s) where
-    closes-is : closes (drop p s) ≡ (eqb (getD s p 0) 42 && eqb (getD s (p + 1) 0) 47)
-    closes-is = stands-two 42 47 s p refl refl ∙ rw (default s p 256 0 (omega arith), default s (p + 1) 256 0 h)
+  -- whether a block comment ends with the byte at p, by that byte and the one before it; nothing closes it from the source's last byte on
+  module _ (l : 1 ≤ p) (h : p < length s) where
+    closes-is : closes (drop (p - 1) s) ≡ (eqb (getD s (p - 1) 0) 42 && eqb (getD s p 0) 47)
+    closes-is =
+        let e : p - 1 + 1 ≡ p = omega arith in
+        stands-two 42 47 s (p - 1) refl refl ∙ rw (default s (p - 1) 256 0 (omega arith), e, default s p 256 0 h)
 
-    pub closes-here : getD s p 0 ≡ 42 → getD s (p + 1) 0 ≡ 47 → closes (drop p s) ≡ true
+    pub closes-here : getD s (p - 1) 0 ≡ 42 → getD s p 0 ≡ 47 → closes (drop (p - 1) s) ≡ true
     closes-here e f = closes-is ∙ rw (e, f)
 
-    pub closes-half : getD s p 0 ≡ 42 → (getD s (p + 1) 0 ≡ 47 → ⊥) → closes (drop p s) ≡ false
-    closes-half e n = closes-is ∙ rw (e, ne-eqb (getD s (p + 1) 0) 47 n)
+    pub closes-half : (getD s (p - 1) 0 ≡ 42 → ⊥) → closes (drop (p - 1) s) ≡ false
+    closes-half n = closes-is ∙ rw (ne-eqb (getD s (p - 1) 0) 42 n)
 
-    pub closes-not : (getD s p 0 ≡ 42 → ⊥) → closes (drop p s) ≡ false
-    closes-not n = closes-is ∙ rw (ne-eqb (getD s p 0) 42 n)
+    pub closes-not : (getD s p 0 ≡ 47 → ⊥) → closes (drop (p - 1) s) ≡ false
+    closes-not n = closes-is ∙ rw (ne-eqb (getD s p 0) 47 n) (and-false (eqb (getD s (p - 1) 0) 42))
 
   pub closes-late : length s ≤ p + 1 → length s ≤ reach closes s p
   closes-late h = go (decLt p (length s)) (closes (drop p s)) refl

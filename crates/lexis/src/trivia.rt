@@ -83,17 +83,17 @@ fn line_comment(s: &[u8], p: usize) -> Stop
     }
 }
 
-// The block comment whose `/*` is at p.
+// The block comment whose `/*` is at p. Its slash is looked for, then the `*` before it: one look and one bound for most bytes.
 fn block_comment(s: &[u8], p: usize) -> Gap
     requires { ⌜ p + 2 ≤ length (now s) ⌝ }
     ensures { λ r. ⌜ Placed (block (drop (p + 2) (now (s .entry)))) (now (s .entry)) p r ⌝ }
 {
-    let mut i = p + 2;
-    while i + 1 < s.len() {
-        if s[i] == 42 {
-            if s[i + 1] == 47 {
+    let mut i = p + 3;
+    while i < s.len() {
+        if s[i] == 47 {
+            if s[i - 1] == 42 {
                 return Gap {
-                    at: i + 2,
+                    at: i + 1,
                     unclosed: false,
                 };
             }
