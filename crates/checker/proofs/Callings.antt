@@ -2,7 +2,7 @@
 use Prim.Native.Nat.{ℕ, _≤_, _<_}
 use mathlib.Core.Path.{_≡_, refl, sym, ap, subst, _∙_}
 use mathlib.Core.List.{List, [], _∷_}
-use mathlib.Core.Bool.{Bool, true, false, cond, not, _&&_}
+use mathlib.Core.Bool.{Bool, true, false, cond, not, and-false, _&&_}
 use mathlib.Core.Option.{some}
 use mathlib.Core.Logic.{_⊎_, inl, inr}
 use native.Mathlib.Omega.{arith}
@@ -118,13 +118,9 @@ module _ (s : List ℕ) (p : ℕ) (lines : Bool) where
       no-part : (leb 38 k && leb k 42) ≡ false
       no-part = go far
         where
-          none : (a : Bool) → (a && false) ≡ false
-          none true = refl
-          none false = refl
-
           go : (k < 38) ⊎ (42 < k) → (leb 38 k && leb k 42) ≡ false
           go (inl h) = rw (lt-leb 38 k h)
-          go (inr h) = rw (lt-leb k 42 h) (none (leb 38 k))
+          go (inr h) = rw (lt-leb k 42 h) (and-false (leb 38 k))
 
       want : wantOf k ≡ anExpression
       want = rw (ne-eqb k 17 (λ e. n (inr (inl e))), ne-eqb k 13 (λ e. n (inl e)), no-part, ne-eqb k 20 (λ e. n (inr (inr e))), ne-eqb k 10 n10)

@@ -1,7 +1,7 @@
 -- A child in its place.
 use Prim.Native.Nat.{ℕ, zero, suc, _+_, _*_, _-_, _/_, _%_, _≤_, _<_}
 use mathlib.Core.Path.{_≡_, refl, sym, ap, subst, _∙_}
-use mathlib.Core.Bool.{Bool, true, false, cond, not, _&&_, _||_}
+use mathlib.Core.Bool.{Bool, true, false, cond, not, or-false, _&&_, _||_}
 use mathlib.Core.List.{List, [], _∷_, _++_}
 use native.Mathlib.Omega.{arith}
 use native.Mathlib.Nat.{sub-zero}
@@ -68,10 +68,6 @@ module _ {t : List ℕ} {i : ℕ} {D : List ℕ} {j at n w v : ℕ} where
 
 -- ---- its key
 
-or-no : (a : Bool) → (a || false) ≡ a
-or-no true = refl
-or-no false = refl
-
 or-swap : (a b : Bool) → (a || b) ≡ (b || a)
 or-swap true true = refl
 or-swap true false = refl
@@ -84,7 +80,7 @@ or-apart false b c = refl
 
 among-snoc : (s xs : List ℕ) (a p : ℕ) → among s (xs ++ a ∷ []) p ≡ (among s xs p || sameKey s a p)
 unfolding among
-among-snoc s [] a p = or-no (sameKey s a p)
+among-snoc s [] a p = or-false (sameKey s a p)
 among-snoc s (x ∷ xs) a p = ap (λ (o : Bool). sameKey s x p || o) (among-snoc s xs a p) ∙ or-apart (sameKey s x p) (among s xs p) (sameKey s a p)
 
 among-cons : (s xs : List ℕ) (a p : ℕ) → among s (a ∷ xs) p ≡ (sameKey s a p || among s xs p)

@@ -1,7 +1,7 @@
 -- A record's text numbers and its text, apart and together.
 use Prim.Native.Nat.{ℕ, zero, suc, _+_, _-_, _≤_, _<_}
 use mathlib.Core.Path.{_≡_, refl, sym, ap, subst, _∙_}
-use mathlib.Core.Bool.{Bool, true, false, _&&_, _||_}
+use mathlib.Core.Bool.{Bool, true, false, or-true, _&&_, _||_}
 use mathlib.Core.List.{List, [], _∷_, _++_, append-nil}
 use native.Mathlib.Omega.{arith}
 use lib.ListN.{length, take, drop}
@@ -100,12 +100,8 @@ module _ (s text : List ℕ) (t u : ℕ) (r : Record) where
   string-yes : r .kind ≡ 6 → r .flag ≡ 1 → ((a && f) || (c && f)) ≡ true
   string-yes k g = rw (eq-eqb (r .kind) 6 k, eq-eqb (r .flag) 1 g)
 
-  or-yes : (x : Bool) → (x || true) ≡ true
-  or-yes true = refl
-  or-yes false = refl
-
   piece-yes : r .kind ≡ 9 → r .flag ≡ 1 → ((a && f) || (c && f)) ≡ true
-  piece-yes k g = rw (eq-eqb (r .kind) 9 k, eq-eqb (r .flag) 1 g) (or-yes (eqb (r .kind) 6 && true))
+  piece-yes k g = rw (eq-eqb (r .kind) 9 k, eq-eqb (r .flag) 1 g) (or-true (eqb (r .kind) 6 && true))
 
   pub spelt-word : Texted s text t u r → r .kind ≡ 6 → Spelt quoted s text (r .start + 1) r
   spelt-word h k = record { long = λ g. spelt-by _ (string-on k g) (string-yes k g) h .0; bytes = λ g. spelt-by _ (string-on k g) (string-yes k g) h .1 }
