@@ -26,7 +26,6 @@ pub mod Programs
 pub mod Callings
 pub mod Columns
 pub mod Goings
-pub mod Units
 pub mod Runs
 pub mod Spellings
 pub mod Tellings

@@ -1,59 +1,15 @@
--- Laws on runs of literal text: a unit and the run behind it, and where a run ends no unit stands.
-use Prim.Native.Nat.{ℕ, zero, suc, _+_, _-_, _≤_}
-use mathlib.Core.Path.{_≡_, refl, sym, ap, _∙_}
-use mathlib.Core.List.{List, [], _∷_, _++_}
-use mathlib.Core.Bool.{Bool, false, _||_}
-use native.Mathlib.Nat.{zero-add}
+-- Where a run of literal text ends, no unit stands.
+use Prim.Native.Nat.{ℕ, zero, suc, _+_, _-_}
+use mathlib.Core.Path.{_≡_, refl, ap, _∙_}
+use mathlib.Core.List.{List, [], _∷_}
+use mathlib.Core.Bool.{Bool}
 use native.Mathlib.Omega.{arith}
-use lib.ListN.{length, drop}
+use lib.ListN.{drop}
 use lib.Dec.{eqb}
-use lib.Seq.{getD-drop, drop-drop, drop-cons}
-use Rattle.lexis.specs.declared.string.Why.{Why}
-use Rattle.lexis.specs.declared.string.Why.the-variants.{End}
+use lib.Seq.{getD-drop, drop-drop}
 use Rattle.lexis.specs.Bytes.{byteAt}
 use Rattle.lexis.specs.Heredoc.{freshAt}
-use Rattle.lexis.specs.String.{Mode, Unit, is, not, unitIn, Text, ended, added, unitElse, textAfter, textAt}
-
--- a run behind a unit of w bytes
-abbrev pub after : ℕ → List ℕ → Bool → Text → Text
-after w bs e t = record { width = w + t .width; why = t .why; escaped = e || t .escaped; bytes = bs ++ t .bytes }
-
--- a byte more in front
-add-after : (bs : List ℕ) (e : Bool) (n : ℕ) (t : Text) → added bs e (after n [] false t) ≡ after (suc n) bs e t
-add-after bs e n t = let z : suc (n + t .width) ≡ suc n + t .width = omega arith in rw z
-
-after-none : (t : Text) → after 0 [] false t ≡ t
-after-none t = rw (zero-add (t .width))
-
--- bytes that belong to the unit before
-pass : (m : Mode) (s : List ℕ) (n i : ℕ) → i + n ≤ length s → textAfter m (freshAt s i) n (drop i s) ≡ after n [] false (textAt m s (i + n))
-unfolding textAfter
-pass m s zero i h = let z : i + 0 ≡ i = omega arith in rw z (sym (after-none (textAt m s i)))
-pass m s (suc n) i h =
-    let z : suc i + n ≡ i + suc n = omega arith in
-    rw (drop-cons s i 256 (omega arith), ← z)
-    (ap (added [] false) (pass m s n (suc i) (omega arith)) ∙ add-after [] false n (textAt m s (suc i + n)))
-
--- a unit, and the run behind it
-module _ (m : Mode) (s : List ℕ) (i : ℕ) where
-  pub step : (w : ℕ) (bs : List ℕ) (e : Bool) → unitIn m (freshAt s i) (drop i s) ≡ is w bs e → 1 ≤ w → w ≤ length s - i → textAt m s i ≡ after w bs e (textAt m s (i + w))
-  unfolding textAfter
-  step zero bs e f g h = absurd (omega arith)
-  step (suc n) bs e f g h =
-      let d = drop-cons s i 256 (omega arith) in
-      let y : suc n - 1 ≡ n = omega arith in
-      let z : suc i + n ≡ i + suc n = omega arith in
-      rw (d, rw d at f, y, ← z) (ap (added bs e) (pass m s n (suc i) (omega arith)) ∙ add-after bs e n (textAt m s (suc i + n)))
-
-  pub stop : (y : Why) → unitIn m (freshAt s i) (drop i s) ≡ not y → textAt m s i ≡ ended y
-  unfolding textAfter
-  stop y f = go (drop i s) f
-    where
-      go : (l : List ℕ) → unitIn m (freshAt s i) l ≡ not y → textAfter m (freshAt s i) 0 l ≡ ended y
-      go [] f = ap (λ (u : Unit). unitElse u (λ w bs e. ended End)) f
-      go (b ∷ l) f = ap (λ (u : Unit). unitElse u (λ w bs e. added bs e (textAfter m (eqb b 10) (w - 1) l))) f
-
--- ---- where a run ends no unit stands
+use Rattle.lexis.specs.String.{Mode, Unit, is, not, unitIn, Text, added, unitElse, textAfter, textAt}
 
 -- whether a line starts at a place of a list, where f says it of the list's start
 abbrev freshIn : Bool → List ℕ → ℕ → Bool

@@ -13,9 +13,10 @@ use Rattle.lexis.specs.Bytes.{begins, stands}
 use Rattle.lexis.specs.Heredoc.{freshAt}
 use Rattle.lexis.specs.String.{Mode, modeOf, Unit, is, not, unit, unitIn, Text, added, unitElse, textAfter, textAt, packed, unpacked, pieceOf, UnitHere}
 use Rattle.lexis.specs.RunLaws.{stands-none, stands-cons, stands-one, stands-inside}
+use Rattle.lexis.proofs.Units.{Bytewise, Sound}
+use Rattle.lexis.proofs.Texts.{after, step, stop, in-sound}
+use Rattle.lexis.proofs.Writes.{of-mode}
 use Rattle.checker.specs.LeafMore.{Spells}
-use Rattle.checker.proofs.Units.{Bytewise, Sound, in-sound, of-mode}
-use Rattle.checker.proofs.Runs.{after, step, stop}
 
 -- ---- bytes out of one number
 
@@ -106,11 +107,11 @@ ahead s q d e i {u} k h = go (unitIn (modeOf s q d e) (freshAt s i) (drop i s)) 
     go : (v : Unit) → unitIn (modeOf s q d e) (freshAt s i) (drop i s) ≡ v → Sound (drop i s) v → Ahead (modeOf s q d e) s i u
     go (not y) f g = absurd (omega (arith, ap (λ (t : Text). t .width) (stop (modeOf s q d e) s i y f)))
     go (is w bs x) f g =
-        let z : u ≡ pieceOf (is w bs x) = k .is ∙ ap pieceOf (of-mode w bs x s q d e (freshAt s i) (drop i s) f) in
+        let z : u ≡ pieceOf (is w bs x) = k .is ∙ ap pieceOf (of-mode s q d e (freshAt s i) (drop i s) w bs x f) in
         let wide : u .width ≡ w = ap (λ (v : Piece). v .width) z in
         let count : u .count ≡ length bs = ap (λ (v : Piece). v .count) z in
         let bytes : u .bytes ≡ packed bs = ap (λ (v : Piece). v .bytes) z in
-        let t : textAt (modeOf s q d e) s i ≡ after w bs x (textAt (modeOf s q d e) s (i + w)) = step (modeOf s q d e) s i w bs x f (g .wide) (omega (arith, k .high)) in
+        let t : textAt (modeOf s q d e) s i ≡ after w bs x (textAt (modeOf s q d e) s (i + w)) = step (modeOf s q d e) s i w bs x f g in
         record {
           bs = bs;
           wide = λ n. omega (arith, g .wide);
