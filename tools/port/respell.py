@@ -58,6 +58,14 @@ def tokens(text):
     return set(TOKEN.findall(COMMENT.sub("", text)))
 
 
+def imported(text):
+    """The names that a text has from another repository's modules."""
+    own = "|".join(sorted(os.listdir(os.path.join(sys.argv[-1], "crates"))))
+    for path, names in re.findall(r"\buse (\S+?)\.\{([^}]*)\}", COMMENT.sub("", text)):
+        if not re.match(rf"Rattle\.({own})\.", path):
+            yield from (n.strip().split(" as ")[0] for n in names.split(","))
+
+
 def unqualified(text):
     """The names of a text that stand behind no dot, but for what a `use` line's path ends in."""
     text = COMMENT.sub("", text)
@@ -102,6 +110,8 @@ def main(args):
     # a constructor, a field or a local stands in the text alone
     for p in antt:
         names |= {t for t in tokens(read[p]) if re.match(r"[a-z]\w*$", t) and re.search(r"[a-z0-9][A-Z]", t)}
+    # a name of a library stays, also where a file of ours declares one like it
+    names -= {n for p in antt + walks + source for n in imported(read[p])}
     table = {n: respelled(n) for n in names if respelled(n) != n}
     taken = {t for p in antt for t in unqualified(read[p])}
     for p in source:

@@ -1,6 +1,6 @@
 -- The bytes that the three numbers name are the text of the node, and they are there.
 use Rattle.std.specs.Prelude.{ℕ, zero, suc, ◌+◌, ◌*◌, ◌/◌, ◌≤◌, ◌<◌, ◌≡◌, refl, List, [], Bool, true, false, cond, ◌&&◌, length, take, drop, eqb, leb, ltb}
-use Rattle.std.proofs.Common.{sym, ap, subst, ◌∙◌, arith, ltb-true, leb-true, eqb_true, ne_eqb}
+use Rattle.std.proofs.Common.{sym, ap, subst, ◌∙◌, arith, ltb-true, leb-true, eqb-true, ne_eqb}
 use Rattle.lexis.specs.RunLaws.{clash}
 use Rattle.reader.specs.Node.{is_text, within, part, number_at, text_as, text_in, has_as, has_text, text_of_node, node_has_text}
 use Rattle.capi.specs.Where.{side_of, from_of, length_of, sided, Stands}
@@ -15,7 +15,7 @@ inside s b x i h = ltb-true _ _ (inside_as (ltb i (length b / 7)) _ h)
 
 -- what a record that has a text says: its flag is 0 or 1, and its part fits
 flagged : (s x : List ℕ) (k φ a n : ℕ) → has_text s x k φ a n ≡ true → (φ ≡ 0 → ⊥) → φ ≡ 1
-flagged s x k φ a n h z = eqb_true _ _ (one (is_text k) (eqb φ 1) (sym (ap (λ y. has_as s x a n (is_text k) y (eqb φ 1)) (ne_eqb _ _ z)) ∙ h))
+flagged s x k φ a n h z = eqb-true _ _ (one (is_text k) (eqb φ 1) (sym (ap (λ y. has_as s x a n (is_text k) y (eqb φ 1)) (ne_eqb _ _ z)) ∙ h))
   where
     one : (t o : Bool) → has_as s x a n t false o ≡ true → o ≡ true
     one true true e = refl
@@ -63,8 +63,8 @@ Named s x r a n y = (a + n ≤ length (sided s x r)) × (take n (drop a (sided s
 
 -- of a record that has a text
 some_as : (s x : List ℕ) (a n φ : ℕ) (t z o : Bool) → z ≡ eqb φ 0 → o ≡ eqb φ 1 → has_as s x a n t z o ≡ true → Named s x (φ + 1) a n (text_as s x a n t z o)
-some_as s x a n φ true true o e _ h = subst (λ y. Named s x (y + 1) a n (part s a n)) (sym (eqb_true φ 0 (sym e))) (leb-true _ _ h, sym (ap (λ w. cond w (take n (drop a s)) []) h))
-some_as s x a n φ true false true _ e h = subst (λ y. Named s x (y + 1) a n (part x a n)) (sym (eqb_true φ 1 (sym e))) (leb-true _ _ h, sym (ap (λ w. cond w (take n (drop a x)) []) h))
+some_as s x a n φ true true o e _ h = subst (λ y. Named s x (y + 1) a n (part s a n)) (sym (eqb-true φ 0 (sym e))) (leb-true _ _ h, sym (ap (λ w. cond w (take n (drop a s)) []) h))
+some_as s x a n φ true false true _ e h = subst (λ y. Named s x (y + 1) a n (part x a n)) (sym (eqb-true φ 1 (sym e))) (leb-true _ _ h, sym (ap (λ w. cond w (take n (drop a x)) []) h))
 some_as s x a n φ true false false _ _ h = clash (sym h)
 some_as s x a n φ false z o _ _ h = clash (sym h)
 

@@ -1,3 +1,4 @@
+#![tactic(auto)]
 // The functions that a program in C or Rust calls: reading, and the text of a node. A slice is a pointer and a length there.
 ghost use Rattle.std.specs.Prelude.{◌≡◌, ◌+◌, ◌*◌, ◌/◌, ◌<◌, length};
 ghost use Rattle.reader.specs.Node.{number_at};

@@ -1,3 +1,4 @@
+#![tactic(auto)]
 // The function that a program in C or Rust calls to check a reading. A slice is a pointer and a length there.
 ghost use Rattle.checker.specs.Check.{Checks};
 

@@ -1,3 +1,4 @@
+#![tactic(auto)]
 // Asks the functions of `lexis` about the sources of standard input, and prints what they answer: a line for each record.
 //
 // A record is eight numbers of one byte each, and then a source: the question, the first place and the last, four numbers that some questions

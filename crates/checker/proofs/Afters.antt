@@ -6,7 +6,7 @@ use mathlib.Core.Bool.{Bool, true, false}
 use native.Mathlib.Omega.{arith}
 use lib.ListN.{length, drop}
 use lib.Dec.{eqb}
-use borrow.Author.Tests.{eqb_true}
+use borrow.Author.Tests.{eqb-true}
 use Rattle.lexis.specs.declared.trivia.Gap.{Gap}
 use Rattle.lexis.specs.declared.trivia.Stop.{Stop}
 use Rattle.lexis.specs.Bytes.{byte_at, begins, stands}
@@ -43,11 +43,11 @@ ended_to {s} {p} {g} {x} m z h st e = record { gap = g; moved = m; made = z; ope
 line_stop : (p : ℕ) (xs : List ℕ) → begins (10 ∷ []) xs ≡ true → trivia.stop p xs ≡ stop_at 1 (p + 1)
 unfolding begins
 line_stop p [] e = clash (sym e)
-line_stop p (x ∷ xs) e = rw (eqb_true x 10 (and_left (eqb x 10) true e))
+line_stop p (x ∷ xs) e = rw (eqb-true x 10 (and_left (eqb x 10) true e))
 
 module _ (s : List ℕ) (p : ℕ) (h : stands (10 ∷ []) s p ≡ true) where
   feed : byte_at s p ≡ 10
-  feed = eqb_true (byte_at s p) 10 (sym (stands_one 10 s p refl) ∙ h)
+  feed = eqb-true (byte_at s p) 10 (sym (stands_one 10 s p refl) ∙ h)
 
   uncommented : stands (47 ∷ 42 ∷ []) s p ≡ false
   uncommented = stands_two 47 42 s p refl refl ∙ rw feed

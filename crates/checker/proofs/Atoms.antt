@@ -7,7 +7,7 @@ use mathlib.Core.Option.{Option, none, some}
 use native.Mathlib.Omega.{arith}
 use lib.ListN.{length}
 use lib.Dec.{eqb}
-use borrow.Author.Tests.{eqb_true, eqb-false, eq-eqb, ne_eqb}
+use borrow.Author.Tests.{eqb-true, eqb-false, eq-eqb, ne_eqb}
 use Rattle.lexis.specs.Bytes.{byte_at, stands, Ran}
 use Rattle.lexis.specs.Operator.{mark_to}
 use Rattle.lexis.specs.Word.{is_word, word_to, for_to}
@@ -233,7 +233,7 @@ module _ {s : List ℕ} {c p e : ℕ} (l : c ≤ 255) (h : Ran s p (mark_to (c �
   byte_is n = go (stands (c ∷ []) s p) refl h.is
     where
       go : (b : Bool) → stands (c ∷ []) s p ≡ b → e ≡ cond (b && true) (p + 1) p → byte_at s p ≡ c
-      go true z a = eqb_true (byte_at s p) c (sym by_byte ∙ z)
+      go true z a = eqb-true (byte_at s p) c (sym by_byte ∙ z)
       go false z a = absurd (n a)
 
   pub byte_not : e ≡ p → ¬ (byte_at s p ≡ c)

@@ -5,7 +5,7 @@ use mathlib.Core.Bool.{Bool, true, false, cond}
 use mathlib.Core.List.{List, [], ◌∷◌}
 use native.Mathlib.Omega.{arith}
 use lib.Dec.{T, eqb}
-use borrow.Author.Tests.{eqb_true}
+use borrow.Author.Tests.{eqb-true}
 use Rattle.lexis.specs.Bytes.{nothing, byte_at, is_start, stands, Ran}
 use Rattle.lexis.specs.Trivia.{gap_to}
 use Rattle.lexis.specs.RunLaws.{clash, and_left, stands_one}
@@ -125,7 +125,7 @@ module _ (s : List ℕ) (p : ℕ) {d : ℕ} (h : Ran s p (mark_to (46 ∷ []) []
   dot_calls lines =
       let b : byte_at s g.at ≡ byte_beyond s (gap_to true s (p + 1)) = sym (skip_to s g.at (gap_to true s (p + 1)).at (gap_to true s (p + 1)).unclosed (ap (λ (x : ℕ). skip s true x) (sym dot_end) ∙ sp.good z)) in
       first_part s p lines (omega arith) (omega arith)
-      (part_attribute s p b (eqb_true (byte_at s p) 46 (sym (stands_one 46 s p refl) ∙ dot_here)) (λ y. clash (sym word_here ∙ ap is_start y)) (start_digit s (byte_at s g.at) word_here))
+      (part_attribute s p b (eqb-true (byte_at s p) 46 (sym (stands_one 46 s p refl) ∙ dot_here)) (λ y. clash (sym word_here ∙ ap is_start y)) (start_digit s (byte_at s g.at) word_here))
 
 module _ {s t : List ℕ} {i j p : ℕ} where
   module _ (is : (row_at t i).kind ≡ 17) {e : ℕ} (h : Ran s p (ident_to s p) e) where

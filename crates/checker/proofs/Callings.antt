@@ -2,12 +2,12 @@
 use Prim.Native.Nat.{ℕ, ◌≤◌, ◌<◌}
 use mathlib.Core.Path.{◌≡◌, refl, sym, ap, subst, ◌∙◌}
 use mathlib.Core.List.{List, [], ◌∷◌}
-use mathlib.Core.Bool.{Bool, true, false, cond, not, and_false, ◌&&◌}
+use mathlib.Core.Bool.{Bool, true, false, cond, not, and-false, ◌&&◌}
 use mathlib.Core.Option.{some}
 use mathlib.Core.Logic.{◌⊎◌, inl, inr}
 use native.Mathlib.Omega.{arith}
 use lib.Dec.{T, eqb, leb}
-use borrow.Author.Tests.{eq-eqb, ne_eqb, eqb_true, eqb-false, le-leb, lt-leb}
+use borrow.Author.Tests.{eq-eqb, ne_eqb, eqb-true, eqb-false, le-leb, lt-leb}
 use Rattle.lexis.specs.Bytes.{stands}
 use Rattle.engine.specs.Base.{all_of, has}
 use Rattle.engine.specs.Layout.{named}
@@ -71,7 +71,7 @@ module _ (s : List ℕ) (p : ℕ) (lines : Bool) where
   by_kind : {k t : ℕ} (j : ℕ) → ((left : ℕ) → t ≡ kind_of (pick_at s (under left lines (want_of k)) p)) → (j ≡ 0 → ⊥) → read_as k ≡ j
       → ((left x : ℕ) → named (hcl s) (style_of k) x ≡ k → pick_at s (under left lines (want_of k)) p ≡ some x → x ≡ j) → FirstAt s k p lines (eqb t j)
   by_kind {k} {t} j f n e g = record {
-    yes = λ z left. kind_some (pick_at s (under left lines (want_of k)) p) j (sym (f left) ∙ eqb_true t j z) n ∙ ap some (sym e);
+    yes = λ z left. kind_some (pick_at s (under left lines (want_of k)) p) j (sym (f left) ∙ eqb-true t j z) n ∙ ap some (sym e);
     no = λ z left x h q. eqb-false t j z (f left ∙ ap kind_of q ∙ g left x h q);
   }
 
@@ -100,7 +100,7 @@ module _ (s : List ℕ) (p : ℕ) (lines : Bool) where
   first_key {k} {t} e h = at 14 e (by_kind {k = 14} 5 h (λ z. omega arith) refl (λ left x f q. five x (eqb x 5) refl f (picked_term s p left lines x q)))
     where
       five : (x : ℕ) (b : Bool) → eqb x 5 ≡ b → cond b 14 x ≡ 14 → T (has termed x) → x ≡ 5
-      five x true g f t = eqb_true x 5 g
+      five x true g f t = eqb-true x 5 g
       five x false g f t = absurd (rw f at t)
 
   pub first_part : {k t : ℕ} → 38 ≤ k → k < 43 → PartAt s p t → FirstAt s k p lines (eqb t k)
@@ -120,7 +120,7 @@ module _ (s : List ℕ) (p : ℕ) (lines : Bool) where
         where
           go : (k < 38) ⊎ (42 < k) → (leb 38 k && leb k 42) ≡ false
           go (inl h) = rw (lt-leb 38 k h)
-          go (inr h) = rw (lt-leb k 42 h) (and_false (leb 38 k))
+          go (inr h) = rw (lt-leb k 42 h) (and-false (leb 38 k))
 
       want : want_of k ≡ an_expression
       want = rw (ne_eqb k 17 (λ e. n (inr (inl e))), ne_eqb k 13 (λ e. n (inl e)), no_part, ne_eqb k 20 (λ e. n (inr (inr e))), ne_eqb k 10 n10)

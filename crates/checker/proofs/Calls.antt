@@ -39,13 +39,13 @@ colons_no : (b : Bool) {p e : ℕ} → e ≡ cond b (p + 2) p → e ≡ p → b 
 colons_no true h z = absurd (omega (arith, h, z))
 colons_no false h z = refl
 
-and_true : (b : Bool) → (b && true) ≡ true → b ≡ true
-and_true true e = refl
-and_true false e = e
+and-true : (b : Bool) → (b && true) ≡ true → b ≡ true
+and-true true e = refl
+and-true false e = e
 
-and_false : (b : Bool) → (b && true) ≡ false → b ≡ false
-and_false true e = e
-and_false false e = refl
+and-false : (b : Bool) → (b && true) ≡ false → b ≡ false
+and-false true e = e
+and-false false e = refl
 
 module _ {s t : List ℕ} {i v : ℕ} {m : List ℕ} {lines : Bool} (e : lines ≡ eqb (v % 2) 1) {D₀ : List ℕ} {j₀ p₀ : ℕ} {D : List ℕ} {j p : ℕ} (w : Onward s t i v m D₀ call_lay j₀ p₀ D call_lay j p) {D₁ : List ℕ} {b : Bool} (k : KidBy t i D D₁ j p 8 1 v b) where
   pub name_no : b ≡ false → RestBy s t i v m D₀ D₁ call_lay j₀ p₀ false
@@ -63,14 +63,14 @@ module _ {s t : List ℕ} {i v : ℕ} {m : List ℕ} {lines : Bool} (e : lines �
       name_last {D'} {r} d o =
           w.on D' r
           (behind (rest_done s t i v m (past_here e h y (not_mark x d))
-          (rest_swap s t i v m (sym (call_same s (att s t i v m) (row_at t i).start e h y (and_false (stands (58 ∷ 58 ∷ []) s g.at) (colons_no _ x.is d)))) o)))
+          (rest_swap s t i v m (sym (call_same s (att s t i v m) (row_at t i).start e h y (and-false (stands (58 ∷ 58 ∷ []) s g.at) (colons_no _ x.is d)))) o)))
 
       module _ (d : ¬ (c ≡ g.at)) {u : Went} (o : Moved s c lines u) where
         pub colons_gap_no : ¬ (u.kind ≡ 0) → RestBy s t i v m D₀ D₁ call_lay j₀ p₀ false
         colons_gap_no r =
             w.on D₁ false
             (behind (rest_done s t i v m (past_here e h y (past_mark x d (not_here e o r)))
-            (rest_stop s t i v m (past_here e h y (not_call (and_true (stands (58 ∷ 58 ∷ []) s g.at) (colons_yes _ x.is d)))))))
+            (rest_stop s t i v m (past_here e h y (not_call (and-true (stands (58 ∷ 58 ∷ []) s g.at) (colons_yes _ x.is d)))))))
 
         pub name_next : u.kind ≡ 0 → Onward s t i v m D₀ call_lay j₀ p₀ D₁ call_lay n u.at
         name_next r = onward_on w (direct_next w.direct (k.inside z) k.long f) k.long (λ D' r' o'. behind (rest_again s t i v m (to_here e h y (to_mark x d (to_here e o r to_end))) o'))

@@ -5,7 +5,7 @@ use mathlib.Core.List.{List}
 use mathlib.Core.Bool.{Bool, true, false, cond, ◌&&◌, ◌||◌, or-false}
 use native.Mathlib.Omega.{arith}
 use lib.Dec.{eqb, ltb}
-use borrow.Author.Tests.{eq-eqb, ne_eqb, eqb_true, eqb-false, lt-ltb, le-ltb, ltb-true, ltb-false}
+use borrow.Author.Tests.{eq-eqb, ne_eqb, eqb-true, eqb-false, lt-ltb, le-ltb, ltb-true, ltb-false}
 use Rattle.lexis.specs.RunLaws.{and_left, and_right, clash}
 use Rattle.grammar.specs.Table.{Record, span}
 use Rattle.grammar.specs.Published.{taken}
@@ -55,7 +55,7 @@ module _ (r : Record) (u : ℕ) where
   plain a b t f = record {
     yes = λ g. (
       omega (arith, t),
-      pairs (eqb_true r.from a (and_left (eqb r.from a) (eqb r.length b) g)) (eqb_true r.length b (and_right (eqb r.from a) (eqb r.length b) g)) ∙ sym (f u),
+      pairs (eqb-true r.from a (and_left (eqb r.from a) (eqb r.length b) g)) (eqb-true r.length b (and_right (eqb r.from a) (eqb r.length b) g)) ∙ sym (f u),
     );
     no = λ g v e p. clash (sym (both r.from r.length (pair_first (p ∙ f v)) (pair_second (p ∙ f v))) ∙ g);
   }
@@ -73,7 +73,7 @@ module _ (r : Record) (u : ℕ) where
 
     long : r.length ≤ u → Columns r u (used (eqb r.from (u - r.length)) (u - r.length))
     long h = record {
-      yes = λ g. (omega (arith, takes), pairs (eqb_true r.from (u - r.length) g) refl ∙ sym (spans (u - r.length)));
+      yes = λ g. (omega (arith, takes), pairs (eqb-true r.from (u - r.length) g) refl ∙ sym (spans (u - r.length)));
       no = λ g v e p. eqb-false r.from (u - r.length) g (omega (arith, takes, pair_first (p ∙ spans v)));
     }
 

@@ -7,7 +7,7 @@ use mathlib.Core.List.{List, [], ◌∷◌}
 use native.Mathlib.Omega.{arith}
 use lib.ListN.{length, get_or}
 use lib.Dec.{eqb, T}
-use borrow.Author.Tests.{eqb_true, eqb-false}
+use borrow.Author.Tests.{eqb-true, eqb-false}
 use Rattle.lexis.specs.RunLaws.{clash}
 use Rattle.index.specs.Index.{Indexed}
 use Rattle.engine.specs.Base.{Rec, has}
@@ -60,7 +60,7 @@ pub own_packed : (v : ℕ) → v ≡ v / 2 + v / 2 + cond (eqb (v % 2) 1) 1 0
 own_packed v = go (eqb (v % 2) 1) refl
   where
     go : (b : Bool) → eqb (v % 2) 1 ≡ b → v ≡ v / 2 + v / 2 + cond b 1 0
-    go true e = let f = eqb_true (v % 2) 1 e in omega (arith, f)
+    go true e = let f = eqb-true (v % 2) 1 e in omega (arith, f)
     go false e = let f = eqb-false (v % 2) 1 e in omega (arith, f)
 
 module _ (s t : List ℕ) (i left : ℕ) (lines : Bool) where

@@ -8,7 +8,7 @@ use lib.ListN.{get_or}
 use lib.Dec.{eqb}
 use Rattle.lexis.specs.Bytes.{Ran}
 use Rattle.lexis.specs.Operator.{mark_to}
-use borrow.Author.Tests.{eqb_true, eqb-false}
+use borrow.Author.Tests.{eqb-true, eqb-false}
 use Rattle.engine.specs.Layout.{move, fork}
 use Rattle.grammar.specs.declared.moves.Went.{Went}
 use Rattle.grammar.specs.Layouts.{Layout, opening, past, plain, strip_lay}
@@ -76,7 +76,7 @@ module _ {s t : List ℕ} {i φ j p : ℕ} {g : Went} (h : Moved s p true g) whe
       where
         go : (v : ℕ) (m D : List ℕ) (b : Bool) → eqb r g.at ≡ b → RestBy s t i v m D D (stripped_lay φ) j p false
         go v m D true a =
-            let q : r ≡ g.at = eqb_true r g.at a in
+            let q : r ≡ g.at = eqb-true r g.at a in
             rest_other s t i v m (past_any h z (not_mark f q)) (rest_stop s t i v m (past_any h z (not_mark (subst (λ (o : ℕ). Ran s o (mark_to (125 ∷ []) [] s o) e) q k) (y ∙ q))))
         go v m D false a = rest_fork s t i v m (to_any h z (to_mark f (eqb-false r g.at a) to_end)) (rest_stop s t i v m (not_mark k y))
 
@@ -85,7 +85,7 @@ module _ {s t : List ℕ} {i φ j p : ℕ} {g : Went} (h : Moved s p true g) whe
       where
         go : (v : ℕ) (m D : List ℕ) (b : Bool) → eqb r g.at ≡ b → ψ ≡ φ + cond (not b) 2 0 → RestBy s t i v m D D (stripped_lay φ) j p x
         go v m D true a u =
-            let q : r ≡ g.at = eqb_true r g.at a in
+            let q : r ≡ g.at = eqb-true r g.at a in
             rest_other s t i v m (past_any h z (not_mark f q))
             (rest_move s t i v m (to_any h z (to_mark (subst (λ (o : ℕ). Ran s o (mark_to (125 ∷ []) [] s o) e) q k) (λ c. n (c ∙ sym q)) to_end))
             (rest_fin s t i v m x (subst (λ (c : ℕ). EndsAt t i j e c x) (u ∙ omega arith) o)))
@@ -96,5 +96,5 @@ pub tilde_on : {s t : List ℕ} {i v : ℕ} {m D D' : List ℕ} {j b l : ℕ} {r
 tilde_on {s} {t} {i} {v} {m} {D} {D'} {j} {b} {l} {r} h o = go (eqb l b) refl o
   where
     go : (x : Bool) → eqb l b ≡ x → RestBy s t i v m D D' (strip_lay (cond (not x) 1 0)) j l r → RestBy s t i v m D D' (fork (plain (126 ∷ [])) (strip_lay 1) (strip_lay 0)) j b r
-    go true e o = rest_other s t i v m (not_mark h (eqb_true l b e)) (subst (λ (q : ℕ). RestBy s t i v m D D' (strip_lay 0) j q r) (eqb_true l b e) o)
+    go true e o = rest_other s t i v m (not_mark h (eqb-true l b e)) (subst (λ (q : ℕ). RestBy s t i v m D D' (strip_lay 0) j q r) (eqb-true l b e) o)
     go false e o = rest_fork s t i v m (to_mark h (eqb-false l b e) to_end) o

@@ -7,7 +7,7 @@ use mathlib.Core.Option.{none, some}
 use native.Mathlib.Omega.{arith}
 use lib.ListN.{length, drop}
 use lib.Dec.{eqb}
-use borrow.Author.Tests.{eq-eqb, ne_eqb, eqb_true, lt-ltb, le-ltb}
+use borrow.Author.Tests.{eq-eqb, ne_eqb, eqb-true, lt-ltb, le-ltb}
 use Rattle.lexis.specs.declared.trivia.Stop.{Stop}
 use Rattle.lexis.specs.Bytes.{byte_at, is_foreign, begins, stands, Ran}
 use Rattle.lexis.specs.Trivia.{stop_at, Stopped}
@@ -355,7 +355,7 @@ module _ {s : List ℕ} {p : ℕ} {g : Went} (sp : Moved s p false g) where
 brace_stop : (p : ℕ) (xs : List ℕ) → begins (125 ∷ []) xs ≡ true → trivia.stop p xs ≡ stop_at 0 p
 unfolding begins
 brace_stop p [] e = clash (sym e)
-brace_stop p (x ∷ xs) e = rw (eqb_true x 125 (and_left (eqb x 125) true e))
+brace_stop p (x ∷ xs) e = rw (eqb-true x 125 (and_left (eqb x 125) true e))
 
 brace_none : (s : List ℕ) (p : ℕ) → stands (125 ∷ []) s p ≡ true → place (stopping s p) ≡ none
 brace_none s p e = rw (brace_stop p (drop p s) e) (unexpected_none s p)

@@ -9,7 +9,7 @@ use native.Mathlib.Omega.{arith}
 use lib.ListN.{length, get_or, set, length-set}
 use lib.Seq.{get_or-set_same, get_or-set_other}
 use lib.Dec.{eqb, eqb→eq, leb, leb→le, T}
-use borrow.Author.Tests.{eqb_true, eqb-false, eq-eqb, ne_eqb, lt-leb}
+use borrow.Author.Tests.{eqb-true, eqb-false, eq-eqb, ne_eqb, lt-leb}
 use Rattle.lexis.specs.RunLaws.{clash}
 use Rattle.engine.specs.Base.{Rec, has, all_of}
 use Rattle.engine.specs.BaseLaws.{has_all, some_is, and_t}
@@ -117,7 +117,7 @@ module _ (s t : List ℕ) (i own : ℕ) where
   pick_not k g n p = go (eqb kind 14) refl
     where
       go : (b : Bool) → eqb kind 14 ≡ b → ⊥
-      go true e = clash (sym (sym (ap is_grown (eqb_true kind 14 e)) ∙ g))
+      go true e = clash (sym (sym (ap is_grown (eqb-true kind 14 e)) ∙ g))
       go false e = clash (sym g ∙ sym (ap is_grown (style_0 k n (ap (λ (b : Bool). cond b 1 0) e))) ∙ pick_grown s att start k p)
 
   grown_of : {rs : List (Rec ℕ)} {ds : List Depth} → is_grown kind ≡ true → Laid s (coded own) (rec_at t i) rs ds → Grown rs ds

@@ -7,7 +7,7 @@ use mathlib.Core.List.{List, [], ◌∷◌, map}
 use native.Mathlib.Omega.{arith}
 use lib.ListN.{length, get_or}
 use lib.Dec.{eqb, leb, T}
-use borrow.Author.Tests.{eqb_true, eqb-false, eq-eqb, ne_eqb}
+use borrow.Author.Tests.{eqb-true, eqb-false, eq-eqb, ne_eqb}
 use Rattle.lexis.specs.String.{Mode}
 use Rattle.lexis.specs.RunLaws.{clash}
 use Rattle.engine.specs.Base.{Rec, has, all_of}
@@ -99,14 +99,14 @@ unfolding layouts
 layout_as k = go (eqb k 14) refl
   where
     go : (b : Bool) → eqb k 14 ≡ b → layout_of (cond b 5 k) ≡ layout_of k
-    go true e = ap layout_of (sym (eqb_true k 14 e))
+    go true e = ap layout_of (sym (eqb-true k 14 e))
     go false e = refl
 
 pub named_as : (s : List ℕ) (k : ℕ) → named (hcl s) (style_of k) (read_as k) ≡ k
 named_as s k = go (eqb k 14) refl
   where
     go : (b : Bool) → eqb k 14 ≡ b → named (hcl s) (cond b 1 0) (cond b 5 k) ≡ k
-    go true e = sym (eqb_true k 14 e)
+    go true e = sym (eqb-true k 14 e)
     go false e = refl
 
 -- what grows has its own name
@@ -118,7 +118,7 @@ grown_named s k x e g = go (eqb k 14) (eqb x 5) refl e
     go true b f e = lone b f (ap (λ (o : Bool). cond o 14 x) (sym f) ∙ e)
       where
         lone : (b : Bool) → eqb x 5 ≡ b → cond b 14 x ≡ k → x ≡ k
-        lone true f e = clash (sym (sym (ap is_grown (eqb_true x 5 f)) ∙ g))
+        lone true f e = clash (sym (sym (ap is_grown (eqb-true x 5 f)) ∙ g))
         lone false f e = e
 
 -- ---- a row that begins with its own bytes
@@ -199,7 +199,7 @@ module _ (s t : List ℕ) (i own : ℕ) where
         test k = eqb k 6 || (eqb k 7 || (eqb k 8 || (eqb k 9 || has laid_out k)))
 
         go : (b : Bool) → eqb kind 14 ≡ b → T (has laid_out kind)
-        go true e = subst (λ (k : ℕ). T (has laid_out k)) (sym (eqb_true kind 14 e)) tt
+        go true e = subst (λ (k : ℕ). T (has laid_out k)) (sym (eqb-true kind 14 e)) tt
         go false e =
             let p : pick_at s att start ≡ some kind = h.yes y (own / 2) ∙ ap (λ (b : Bool). some (cond b 5 kind)) e in
             let x : T (test kind) = pick_all test (want_of kind) (listed (want_of kind)) s (eqb (own % 2) 1) start kind p in

@@ -9,7 +9,7 @@ use native.Mathlib.Omega.{arith}
 use lib.ListN.{length, get_or, set, length-set}
 use lib.Seq.{get_or-set_same, get_or-set_other}
 use lib.Dec.{eqb, eqb→eq, ltb, ltb→lt, T}
-use borrow.Author.Tests.{eqb_true, eq-eqb, ne_eqb}
+use borrow.Author.Tests.{eqb-true, eq-eqb, ne_eqb}
 use Rattle.lexis.specs.RunLaws.{clash}
 use Rattle.index.specs.Index.{Indexed}
 use Rattle.index.specs.Index as index
@@ -474,7 +474,7 @@ module _ (s t : List ℕ) (i left : ℕ) (lines : Bool) where
     object_entry c h e = is_entry_lem c (sym (by_same (eqb kind 12) (is_entry c) h) ∙ eq-eqb kind 12 e)
 
     entry_object : (c : Class) → T (same (eqb kind 12) (is_entry c)) → c ≡ entry → kind ≡ 12
-    entry_object c h e = eqb_true kind 12 (by_same (eqb kind 12) (is_entry c) h ∙ ap is_entry e)
+    entry_object c h e = eqb-true kind 12 (by_same (eqb kind 12) (is_entry c) h ∙ ap is_entry e)
 
     head_of : {A : Type 0} {x y : A} {xs ys : List A} → x ∷ xs ≡ y ∷ ys → x ≡ y
     head_of {x = x} {y} {xs} {ys} e = cc

@@ -8,7 +8,7 @@ use native.Mathlib.Omega.{arith}
 use lib.ListN.{length, drop}
 use lib.Dec.{eqb, leb}
 use lib.Seq.{drop-drop}
-use borrow.Author.Tests.{eqb_true, eqb-false, eq-eqb, ne_eqb, leb-true, leb-false}
+use borrow.Author.Tests.{eqb-true, eqb-false, eq-eqb, ne_eqb, leb-true, leb-false}
 use Rattle.lexis.specs.declared.trivia.Gap.{Gap}
 use Rattle.lexis.specs.Bytes.{byte_at, is_space, begins, stands, up_to, Byte, Ran}
 use Rattle.lexis.specs.Trivia.{Item, none, wide, closes, block, item, ends_at, open_at, placed, gap_to}
@@ -27,16 +27,16 @@ use Rattle.checker.specs.Lone.{sign_at, signed, Known, SpacesTo, CloserAt, Cover
 -- ---- two bytes, one by one
 
 opens_first : (s : List ℕ) (c : ℕ) → stands (47 ∷ 42 ∷ []) s c ≡ true → byte_at s c ≡ 47
-opens_first s c e = eqb_true (byte_at s c) 47 (and_left (eqb (byte_at s c) 47) (eqb (byte_at s (c + 1)) 42) (sym (stands_two 47 42 s c refl refl) ∙ e))
+opens_first s c e = eqb-true (byte_at s c) 47 (and_left (eqb (byte_at s c) 47) (eqb (byte_at s (c + 1)) 42) (sym (stands_two 47 42 s c refl refl) ∙ e))
 
 opens_second : (s : List ℕ) (c : ℕ) → stands (47 ∷ 42 ∷ []) s c ≡ true → byte_at s (c + 1) ≡ 42
-opens_second s c e = eqb_true (byte_at s (c + 1)) 42 (and_right (eqb (byte_at s c) 47) (eqb (byte_at s (c + 1)) 42) (sym (stands_two 47 42 s c refl refl) ∙ e))
+opens_second s c e = eqb-true (byte_at s (c + 1)) 42 (and_right (eqb (byte_at s c) 47) (eqb (byte_at s (c + 1)) 42) (sym (stands_two 47 42 s c refl refl) ∙ e))
 
 shuts_first : (s : List ℕ) (c : ℕ) → stands (42 ∷ 47 ∷ []) s c ≡ true → byte_at s c ≡ 42
-shuts_first s c e = eqb_true (byte_at s c) 42 (and_left (eqb (byte_at s c) 42) (eqb (byte_at s (c + 1)) 47) (sym (stands_two 42 47 s c refl refl) ∙ e))
+shuts_first s c e = eqb-true (byte_at s c) 42 (and_left (eqb (byte_at s c) 42) (eqb (byte_at s (c + 1)) 47) (sym (stands_two 42 47 s c refl refl) ∙ e))
 
 shuts_second : (s : List ℕ) (c : ℕ) → stands (42 ∷ 47 ∷ []) s c ≡ true → byte_at s (c + 1) ≡ 47
-shuts_second s c e = eqb_true (byte_at s (c + 1)) 47 (and_right (eqb (byte_at s c) 42) (eqb (byte_at s (c + 1)) 47) (sym (stands_two 42 47 s c refl refl) ∙ e))
+shuts_second s c e = eqb-true (byte_at s (c + 1)) 47 (and_right (eqb (byte_at s c) 42) (eqb (byte_at s (c + 1)) 47) (sym (stands_two 42 47 s c refl refl) ∙ e))
 
 -- ---- the first place that passes a test is the same from each place before it
 
@@ -130,7 +130,7 @@ module _ {s : List ℕ} {p i : ℕ} (h : Blank s p i) {b : ℕ} (at : Byte s i b
       }
     where
       by : (x : ℕ) → p ≤ x → x < i + 1 → (q : Bool) → eqb x i ≡ q → is_space (byte_at s x) ≡ true
-      by x a c true f = ap (λ (y : ℕ). is_space (byte_at s y)) (eqb_true x i f) ∙ blank ∙ e
+      by x a c true f = ap (λ (y : ℕ). is_space (byte_at s y)) (eqb-true x i f) ∙ blank ∙ e
       by x a c false f = let n = eqb-false x i f in h.are x a (omega (arith, n))
 
   pub blank_ends : r ≡ false → SpacesTo s p i
@@ -234,13 +234,13 @@ module _ {s : List ℕ} {c at : ℕ} (t : Trail s c at) where
               bad false g = clash (sym (p.are y (omega arith) (omega (arith, leb-false q (e + 2) g))) ∙ ap is_space a)
 
           by : (b d : Bool) → eqb (x + 1) e ≡ b → eqb x e ≡ d → leb (x + 2) e ≡ false → ⊥
-          by true d g h k = n (ap (byte_at s) (let y : x + 2 ≡ e + 1 = omega (arith, eqb_true (x + 1) e g) in y) ∙ shuts_second s e (shut f))
+          by true d g h k = n (ap (byte_at s) (let y : x + 2 ≡ e + 1 = omega (arith, eqb-true (x + 1) e g) in y) ∙ shuts_second s e (shut f))
           by false true g h k =
-              let m : ◌≡◌ {A = ℕ} 47 42 = sym (opens_first s x o) ∙ ap (byte_at s) (eqb_true x e h) ∙ shuts_first s e (shut f) in absurd (omega arith)
+              let m : ◌≡◌ {A = ℕ} 47 42 = sym (opens_first s x o) ∙ ap (byte_at s) (eqb-true x e h) ∙ shuts_first s e (shut f) in absurd (omega arith)
           by false false g h k = far (eqb x (e + 1)) refl
             where
               far : (u : Bool) → eqb x (e + 1) ≡ u → ⊥
-              far true y = star (x + 1) (opens_second s x o) (omega (arith, eqb_true x (e + 1) y))
+              far true y = star (x + 1) (opens_second s x o) (omega (arith, eqb-true x (e + 1) y))
               far false y =
                   let a = leb-false (x + 2) e k in
                   let v = p.are x (omega (arith, a, eqb-false (x + 1) e g, eqb-false x e h, eqb-false x (e + 1) y)) l in

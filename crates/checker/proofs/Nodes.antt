@@ -7,7 +7,7 @@ use mathlib.Core.List.{List, [], ◌∷◌, map}
 use native.Mathlib.Omega.{arith}
 use lib.ListN.{length, get_or}
 use lib.Dec.{eqb, leb, T}
-use borrow.Author.Tests.{eqb_true, eqb-false, eq-eqb, ne_eqb}
+use borrow.Author.Tests.{eqb-true, eqb-false, eq-eqb, ne_eqb}
 use Rattle.lexis.specs.declared.heredoc.Opener.{Opener}
 use Rattle.lexis.specs.Heredoc.{opener_at, Opened}
 use Rattle.lexis.specs.RunLaws.{clash}
@@ -49,7 +49,7 @@ module _ {s t : List ℕ} {i l : ℕ} {lines : Bool} where
   pub left_by : {x : ℕ} {b : Bool} → b ≡ has (kinds_by 0) (row_at t l).kind → b ≡ true → (row_at t l).start ≡ (row_at t i).start → tight_of (row_at t i).kind ≤ hold_of (row_at t l).kind → {p : ℕ} → p ≡ (row_at t l).end → Follow s p lines x → LeftAt s t i l lines (eqb x (row_at t i).kind)
   left_by {x} e y a h {p} q f = record {
     start = λ z. a;
-    follows = λ z n. sym (eqb_true x (row_at t i).kind z) ∙ follow n;
+    follows = λ z n. sym (eqb-true x (row_at t i).kind z) ∙ follow n;
     holds = λ z. h;
     kind = λ z. is_t _ (sym e ∙ y);
     no = λ z b c d g k. eqb-false x (row_at t i).kind z (follow 0 ∙ sym (d 0));
@@ -65,7 +65,7 @@ module _ {s t : List ℕ} {i l : ℕ} {lines : Bool} where
   left_to {x} {p} q h f = record {
     left = f;
     operates = λ z n.
-        let e : x.kind ≡ (row_at t i).kind = eqb_true x.kind (row_at t i).kind z in
+        let e : x.kind ≡ (row_at t i).kind = eqb-true x.kind (row_at t i).kind z in
         let m : x.end ≡ p → ⊥ = λ y. n (y ∙ q) in
         record {
           goes = λ left σ w. subst (λ (o : ℕ). walk s (under left lines w) σ (gap here ∷ operator o ∷ []) (row_at t l).end ≡ to x.end) e (subst (λ (o : ℕ). walk s (under left lines w) σ (gap here ∷ operator x.kind ∷ []) o ≡ to x.end) q (h.operates m left σ w));
@@ -95,7 +95,7 @@ module _ (s text t : List ℕ) (i : ℕ) (D : List ℕ) where
     long = refl;
     lo = i;
     kids = [];
-    tiles = λ z. omega (arith, eqb_true x 1 z, c);
+    tiles = λ z. omega (arith, eqb-true x 1 z, c);
     split = λ z. knil;
     same = λ z y l. refl;
     rule = λ z. subst (λ (b : Bool). rule_as b s (coded (get_or D i 0)) (rec_at t i) [] []) (sym (eq-eqb kind 9 k)) (refl, refl);

@@ -7,7 +7,7 @@ use native.Mathlib.Omega.{arith}
 use native.Mathlib.Nat.{sub-zero}
 use lib.ListN.{length, get_or, set, take, drop, length-set}
 use lib.Dec.{eqb, T}
-use borrow.Author.Tests.{eqb_true, eqb-false, eq-eqb, ne_eqb}
+use borrow.Author.Tests.{eqb-true, eqb-false, eq-eqb, ne_eqb}
 use Rattle.lexis.specs.Keys.{among, same_key}
 use Rattle.index.specs.Mark.{mark_at}
 use Rattle.index.specs.Index.{Indexed, Inserted}
@@ -34,7 +34,7 @@ module _ {t : List ℕ} {i j q φ : ℕ} where
   ends_no f = record { yes = λ z. clash (sym z); no = λ z. f }
 
   pub ends_by_lem : (x : ℕ) → x ≡ (row_at t i).flag → j ≡ i → q ≡ (row_at t i).end → EndsAt t i j q φ (eqb φ x)
-  ends_by_lem x e a b = record { yes = λ z. (a, b, eqb_true φ x z ∙ e); no = λ z c d f. eqb-false φ x z (f ∙ sym e) }
+  ends_by_lem x e a b = record { yes = λ z. (a, b, eqb-true φ x z ∙ e); no = λ z c d f. eqb-false φ x z (f ∙ sym e) }
 
 -- ---- its place and kind
 
@@ -200,7 +200,7 @@ module _ (s t : List ℕ) (i : ℕ) (m D K : List ℕ) (j n c left : ℕ) (lines
       where
         go : (b : Bool) → eqb y.want 4 ≡ b → More s (downs s (under left lines w) (class_in c) σ ks).want (rec_at t j)
         go true e =
-            let f = eqb_true y.want 4 e in
+            let f = eqb-true y.want 4 e in
             let g = h.item f in
             subst (λ (o : Class). More s (downs s (under left lines w) o σ ks).want (rec_at t j)) (sym g) (v.new z f ks (k g))
         go false e = h.plain (eqb-false y.want 4 e) s w σ ks (rec_at t j)

@@ -6,7 +6,7 @@ use mathlib.Core.Bool.{Bool, true, false}
 use native.Mathlib.Omega.{arith}
 use lib.ListN.{get_or-eq_default}
 use lib.Dec.{T, eqb, leb}
-use borrow.Author.Tests.{ne_eqb, eqb_true, lt-ltb, le-ltb, leb-true, leb-false}
+use borrow.Author.Tests.{ne_eqb, eqb-true, lt-ltb, le-ltb, leb-true, leb-false}
 use Rattle.engine.specs.Base.{Rec, all_of, has}
 use Rattle.grammar.specs.declared.shape.Instr.{Instr}
 use Rattle.grammar.specs.declared.shape.Child.{Child}
@@ -170,4 +170,4 @@ tight_same k = go (leb 43 k) refl
     go false e = agreed (λ k. eqb (seat_of k % 16) (tight_of k)) (λ k. true) 43 tt k (leb-false 43 k e)
 
 pub seat_tight : (k : ℕ) {x : ℕ} → x ≡ seat_of k → x % 16 ≡ tight_of k
-seat_tight k e = ap (λ (x : ℕ). x % 16) e ∙ eqb_true (seat_of k % 16) (tight_of k) (tight_same k)
+seat_tight k e = ap (λ (x : ℕ). x % 16) e ∙ eqb-true (seat_of k % 16) (tight_of k) (tight_same k)

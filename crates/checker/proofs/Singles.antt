@@ -7,7 +7,7 @@ use mathlib.Core.Option.{some}
 use mathlib.Core.List.{List, [], ◌∷◌, map}
 use native.Mathlib.Omega.{arith}
 use lib.Dec.{eqb, leb}
-use borrow.Author.Tests.{eqb_true, eqb-false, eq-eqb, ne_eqb, lt-leb, le-leb}
+use borrow.Author.Tests.{eqb-true, eqb-false, eq-eqb, ne_eqb, lt-leb, le-leb}
 use Rattle.lexis.specs.RunLaws.{clash}
 use Rattle.engine.specs.Base.{Rec}
 use Rattle.engine.specs.BaseLaws.{some_is}
@@ -57,11 +57,11 @@ read_is : (s : List ℕ) (k x : ℕ) → x ≤ 5 → named (hcl s) (style_of k) 
 read_is s k x small = go (eqb k 14) refl
   where
     five : (b : Bool) → eqb x 5 ≡ b → k ≡ 14 → cond b 14 x ≡ k → 5 ≡ x
-    five true f e h = sym (eqb_true x 5 f)
+    five true f e h = sym (eqb-true x 5 f)
     five false f e h = absurd (omega arith)
 
     go : (b : Bool) → eqb k 14 ≡ b → named (hcl s) (cond b 1 0) x ≡ k → cond b 5 k ≡ x
-    go true e h = five (eqb x 5) refl (eqb_true k 14 e) h
+    go true e h = five (eqb x 5) refl (eqb-true k 14 e) h
     go false e h = sym h
 
 want_is : (k : ℕ) → Token k → want_of k ≡ an_expression
@@ -93,7 +93,7 @@ module _ {t : List ℕ} {i k e : ℕ} where
   token_no f = record { yes = λ z. clash (sym z); no = λ z. f }
 
   pub token_by : {x : ℕ} → x ≡ (row_at t i).flag → read_as (row_at t i).kind ≡ k → (row_at t i).end ≡ e → TokenAt t i k e (eqb x 0)
-  token_by {x} f a b = record { yes = λ z. (a, b, sym f ∙ eqb_true x 0 z); no = λ z _ _ c. eqb-false x 0 z (f ∙ c) }
+  token_by {x} f a b = record { yes = λ z. (a, b, sym f ∙ eqb-true x 0 z); no = λ z _ _ c. eqb-false x 0 z (f ∙ c) }
 
 pub unsure : {s t : List ℕ} {i : ℕ} {lines : Bool} → SingleBy s t i lines (record { sure = false; yes = false })
 unsure = record { other = λ z. clash (sym z); rule = λ z. clash (sym z) }

@@ -9,7 +9,7 @@ use native.Mathlib.Omega.{arith}
 use lib.ListN.{length, get_or, set, drop, length-set}
 use lib.Seq.{get_or-set_same, get_or-set_other}
 use lib.Dec.{eqb, eqb→eq, T}
-use borrow.Author.Tests.{eqb_true, eqb-false, eq-eqb, ne_eqb}
+use borrow.Author.Tests.{eqb-true, eqb-false, eq-eqb, ne_eqb}
 use Rattle.lexis.specs.declared.heredoc.Line.{Line}
 use Rattle.lexis.specs.declared.heredoc.Line.TheVariants as line
 use Rattle.lexis.specs.declared.string.Why.{Why}
@@ -44,7 +44,7 @@ place_to (no k p) e = absurd (let z : ◌≡◌ {A = ℕ} 0 1 = cc in omega arit
 -- ---- how a text ends
 
 pub line_closes : {s w : List ℕ} {q end at : ℕ} → line_at w s q ≡ line.Closes at → LineEnds s w q end (eqb at end)
-line_closes {q = q} {end} {at} e = record { yes = λ z. ap (λ (x : Line). closes_as x q) e ∙ ap to (eqb_true at end z); no = λ z h. eqb-false at end z (to_is (sym (ap (λ (x : Line). closes_as x q) e) ∙ h)) }
+line_closes {q = q} {end} {at} e = record { yes = λ z. ap (λ (x : Line). closes_as x q) e ∙ ap to (eqb-true at end z); no = λ z h. eqb-false at end z (to_is (sym (ap (λ (x : Line). closes_as x q) e) ∙ h)) }
 
 pub line_text : {s w : List ℕ} {q end : ℕ} → line_at w s q ≡ line.Text → LineEnds s w q end false
 line_text {q = q} e = record { yes = λ z. clash (sym z); no = λ z h. no_to (sym (ap (λ (x : Line). closes_as x q) e) ∙ h) }
@@ -54,7 +54,7 @@ line_foreign {q = q} e = record { yes = λ z. clash (sym z); no = λ z h. no_to 
 
 module _ {s : List ℕ} {d e q end : ℕ} where
   pub closes_quote : ClosesBy s d e q why.Quote end (eqb (q + 1) end)
-  closes_quote = record { yes = λ z σ h. ap to (eqb_true (q + 1) end z); no = λ z σ h g. eqb-false (q + 1) end z (to_is g) }
+  closes_quote = record { yes = λ z σ h. ap to (eqb-true (q + 1) end z); no = λ z σ h g. eqb-false (q + 1) end z (to_is g) }
 
   pub closes_never : {y : Why} → ((σ : ℕ) → close_by s σ q y ≡ to end → ⊥) → ClosesBy s d e q y end false
   closes_never f = record { yes = λ z. clash (sym z); no = λ z σ h g. f σ g }

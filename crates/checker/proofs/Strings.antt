@@ -8,7 +8,7 @@ use mathlib.Core.Logic.{◌⊎◌, inl, inr}
 use native.Mathlib.Omega.{arith}
 use lib.ListN.{drop}
 use lib.Dec.{eqb}
-use borrow.Author.Tests.{eq-eqb, eqb_true}
+use borrow.Author.Tests.{eq-eqb, eqb-true}
 use Rattle.lexis.specs.declared.string.Why.{Why}
 use Rattle.lexis.specs.declared.string.Why.TheVariants as why
 use Rattle.lexis.specs.declared.string.Run.{Run}
@@ -218,7 +218,7 @@ unfolding atom
 quote_of s b σ p q e = go (stands (34 ∷ []) s p) refl (is_foreign (byte_at s p)) (ap place (sym (walk_one s b σ (mark (34 ∷ []) []) p)) ∙ e)
   where
     go : (y : Bool) → stands (34 ∷ []) s p ≡ y → (x : Bool) → place (when (y && true) (to (p + 1)) (when x (no 3 p) (no 4 p))) ≡ some q → byte_at s p ≡ 34
-    go true f x g = eqb_true (byte_at s p) 34 (sym (stands_one 34 s p refl) ∙ f)
+    go true f x g = eqb-true (byte_at s p) 34 (sym (stands_one 34 s p refl) ∙ f)
     go false f true g = absurd (let z : ◌≡◌ {A = ℕ} 0 1 = cc in omega arith)
     go false f false g = absurd (let z : ◌≡◌ {A = ℕ} 0 1 = cc in omega arith)
 
@@ -308,7 +308,7 @@ module _ {table : List ℕ} {i : ℕ} {r : Row} (six : (row_at table i).kind ≡
 
       flagged : Tells quoted s text ((row_at table i).start + 1) (row_at table i) → Strung s (row_at table i).start (row_at table i).end (row_at table i).flag
       flagged v = record {
-        quote = eqb_true (byte_at s (row_at table i).start) 34 (sym (quote_here f) ∙ a);
+        quote = eqb-true (byte_at s (row_at table i).start) 34 (sym (quote_here f) ∙ a);
         why = sym (ap (λ (u : Run). u.why) here.is) ∙ quote_only t.why (sym k ∙ b);
         end = sym w.end ∙ l ∙ ap (λ (u : ℕ). u + 1) (ap (λ (u : Run). u.end) here.is);
         flag = v.flag;

@@ -5,7 +5,7 @@ use mathlib.Core.List.{List, [], ◌∷◌}
 use mathlib.Core.Bool.{Bool, true, false, not, ◌&&◌}
 use native.Mathlib.Omega.{arith}
 use lib.Dec.{T, eqb, leb, leb→le}
-use borrow.Author.Tests.{ne_eqb, eqb_true, eqb-false}
+use borrow.Author.Tests.{ne_eqb, eqb-true, eqb-false}
 use Rattle.engine.specs.Base.{all_of, has}
 use Rattle.engine.specs.BaseLaws.{and_t}
 
@@ -30,7 +30,7 @@ agreed f g zero t k h = absurd (omega arith)
 agreed f g (suc n) t k h = go (eqb k n) refl (and_t (alike (f n) (g n)) (agree f g n) t) (agreed f g n)
   where
     go : (b : Bool) → eqb k n ≡ b → T (alike (f n) (g n)) × T (agree f g n) → (T (agree f g n) → (j : ℕ) → j < n → f j ≡ g j) → f k ≡ g k
-    go true e u ih = subst (λ (j : ℕ). f j ≡ g j) (sym (eqb_true k n e)) (alike_is (f n) (g n) u.0)
+    go true e u ih = subst (λ (j : ℕ). f j ≡ g j) (sym (eqb-true k n e)) (alike_is (f n) (g n) u.0)
     go false e u ih = ih u.1 k (omega (arith, eqb-false k n e))
 
 -- a number past all that are listed is not listed

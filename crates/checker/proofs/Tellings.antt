@@ -6,7 +6,7 @@ use mathlib.Core.Bool.{Bool, true, false, cond, ◌&&◌}
 use native.Mathlib.Omega.{arith}
 use lib.ListN.{length, take, drop}
 use lib.Dec.{eqb}
-use borrow.Author.Tests.{eq-eqb, ne_eqb, eqb_true}
+use borrow.Author.Tests.{eq-eqb, ne_eqb, eqb-true}
 use Rattle.lexis.specs.declared.string.Run.{Run}
 use Rattle.lexis.specs.Bytes.{begins, stands}
 use Rattle.lexis.specs.String.{Mode, Text, text_at, mode_of, RunHere}
@@ -24,7 +24,7 @@ unfolding begins
 begins_take [] l e = refl
 begins_take (x ∷ t) [] e = clash (sym e)
 begins_take (x ∷ t) (b ∷ l) e =
-    let f : b ≡ x = eqb_true b x (and_left (eqb b x) (begins t l) e) in
+    let f : b ≡ x = eqb-true b x (and_left (eqb b x) (begins t l) e) in
     rw (f, begins_take t l (and_right (eqb b x) (begins t l) e))
 
 take_begins : (t l : List ℕ) → take (length t) l ≡ t → begins t l ≡ true
@@ -64,16 +64,16 @@ module _ (m : Mode) (s : List ℕ) (p : ℕ) (text : List ℕ) (o : Record) wher
 
   yes_by : (y : Bool) → (text_at m s p).escaped ≡ y → cond y (eqb o.flag 1 && standing) (eqb o.flag 0) ≡ true → Tells m s text p o
   yes_by true k z =
-      let a = eqb_true o.flag 1 (and_left (eqb o.flag 1) standing z) in
+      let a = eqb-true o.flag 1 (and_left (eqb o.flag 1) standing z) in
       let b = and_right (eqb o.flag 1) standing z in
-      let c = eqb_true o.length (length (text_at m s p).bytes) (and_left (eqb o.length (length (text_at m s p).bytes)) (stands (text_at m s p).bytes text o.from) b) in
+      let c = eqb-true o.length (length (text_at m s p).bytes) (and_left (eqb o.length (length (text_at m s p).bytes)) (stands (text_at m s p).bytes text o.from) b) in
       let f = and_right (eqb o.length (length (text_at m s p).bytes)) (stands (text_at m s p).bytes text o.from) b in
       record {
         flag = a ∙ rw k;
         spelt = record { long = λ _. c; bytes = λ _. ap (λ (n : ℕ). take n (drop o.from text)) c ∙ begins_take (text_at m s p).bytes (drop o.from text) f };
       }
   yes_by false k z =
-      let a = eqb_true o.flag 0 z in
+      let a = eqb-true o.flag 0 z in
       record { flag = a ∙ rw k; spelt = record { long = λ n. absurd (omega (arith, a)); bytes = λ n. absurd (omega (arith, a)) } }
 
   no_by : Tells m s text p o → (y : Bool) → (text_at m s p).escaped ≡ y → cond y (eqb o.flag 1 && standing) (eqb o.flag 0) ≡ false → ⊥

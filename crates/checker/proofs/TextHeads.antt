@@ -7,7 +7,7 @@ use mathlib.Core.List.{List, [], ◌∷◌, map}
 use native.Mathlib.Omega.{arith}
 use lib.ListN.{length, get_or}
 use lib.Dec.{eqb, T}
-use borrow.Author.Tests.{eqb_true, eqb-false, eq-eqb, ne_eqb}
+use borrow.Author.Tests.{eqb-true, eqb-false, eq-eqb, ne_eqb}
 use Rattle.lexis.specs.declared.heredoc.Opener.{Opener}
 use Rattle.lexis.specs.Bytes.{byte_at, stands, is_foreign}
 use Rattle.lexis.specs.Heredoc.{opener_at, opener_word, Opened}
@@ -224,7 +224,7 @@ module _ (s text t : List ℕ) (i own : ℕ) (m D : List ℕ) (j : ℕ) where
 
       pub heredoc_mode : mode_of s false o.from o.to ≡ round s start
       heredoc_mode =
-          let c = eqb_true (byte_at s start) 60 (and_left (eqb (byte_at s start) 60) (eqb (byte_at s (start + 1)) 60) marked) in
+          let c = eqb-true (byte_at s start) 60 (and_left (eqb (byte_at s start) 60) (eqb (byte_at s (start + 1)) 60) marked) in
           rw (ne_eqb (byte_at s start) 34 (λ z. omega arith), h.is)
 
       pub heredoc_by : {D' : List ℕ} {r : Bool} → o.good ≡ true → flag ≡ cond o.dash 1 0 → TextBy s text t i m D D' j o.at own false o.from o.to r → RuleBy s text t i m D D' j own r

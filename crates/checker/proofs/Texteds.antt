@@ -1,12 +1,12 @@
 -- A record's text numbers and its text, apart and together.
 use Prim.Native.Nat.{ℕ, zero, suc, ◌+◌, ◌-◌, ◌≤◌, ◌<◌}
 use mathlib.Core.Path.{◌≡◌, refl, sym, ap, subst, ◌∙◌}
-use mathlib.Core.Bool.{Bool, true, false, or_true, ◌&&◌, ◌||◌}
+use mathlib.Core.Bool.{Bool, true, false, or-true, ◌&&◌, ◌||◌}
 use mathlib.Core.List.{List, [], ◌∷◌, ◌++◌, append-nil}
 use native.Mathlib.Omega.{arith}
 use lib.ListN.{length, take, drop}
 use lib.Dec.{eqb}
-use borrow.Author.Tests.{eqb_true, eqb-false, eq-eqb, ne_eqb}
+use borrow.Author.Tests.{eqb-true, eqb-false, eq-eqb, ne_eqb}
 use Rattle.lexis.specs.String.{quoted, text_at}
 use Rattle.lexis.specs.RunLaws.{clash}
 use Rattle.grammar.specs.Moves.{round}
@@ -101,7 +101,7 @@ module _ (s text : List ℕ) (t u : ℕ) (r : Record) where
   string_yes k g = rw (eq-eqb r.kind 6 k, eq-eqb r.flag 1 g)
 
   piece_yes : r.kind ≡ 9 → r.flag ≡ 1 → ((a && f) || (c && f)) ≡ true
-  piece_yes k g = rw (eq-eqb r.kind 9 k, eq-eqb r.flag 1 g) (or_true (eqb r.kind 6 && true))
+  piece_yes k g = rw (eq-eqb r.kind 9 k, eq-eqb r.flag 1 g) (or-true (eqb r.kind 6 && true))
 
   pub spelt_word : Texted s text t u r → r.kind ≡ 6 → Spelt quoted s text (r.start + 1) r
   spelt_word h k = record { long = λ g. (spelt_by _ (string_on k g) (string_yes k g) h).0; bytes = λ g. (spelt_by _ (string_on k g) (string_yes k g) h).1 }
@@ -137,11 +137,11 @@ module _ (s text : List ℕ) (t u : ℕ) (r : Record) where
           off false true = refl
           off false false = refl
       go true g true h v k =
-          let g' = eqb_true r.flag 1 g in
-          let h' = eqb_true r.kind 6 h in
+          let g' = eqb-true r.flag 1 g in
+          let h' = eqb-true r.kind 6 h in
           together _ (string_on h' g') (string_yes h' g') p ((six h').long g') ((six h').bytes g')
       go true g false h true k =
-          let g' = eqb_true r.flag 1 g in
-          let k' = eqb_true r.kind 9 k in
+          let g' = eqb-true r.flag 1 g in
+          let k' = eqb-true r.kind 9 k in
           together _ (piece_on k' g') (piece_yes k' g') p ((nine k').long g') ((nine k').bytes g')
       go true g false h false k = none_on (rw (h, k))

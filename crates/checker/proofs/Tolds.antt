@@ -8,7 +8,7 @@ use native.Mathlib.Omega.{arith}
 use lib.ListN.{length, get_or, set, replicate, length-set}
 use lib.Seq.{get_or-set_same, get_or-set_other}
 use lib.Dec.{eqb}
-use borrow.Author.Tests.{eqb_true, eqb-false, eq-eqb, ne_eqb}
+use borrow.Author.Tests.{eqb-true, eqb-false, eq-eqb, ne_eqb}
 use Rattle.lexis.specs.Bytes.{byte_at, is_start, is_rest, stands, Ran, run_to}
 use Rattle.lexis.specs.Trivia.{gap_to}
 use Rattle.lexis.specs.Word.{ident_to, is_word, null, yes, constant_at}
@@ -48,7 +48,7 @@ module _ {t E : List ℕ} {at e : ℕ} {alone : Bool} where
   tells_one k a b c = record { long = length-set E k 0; new = λ x. go x (eqb x k) refl }
     where
       go : (x : ℕ) (d : Bool) → eqb x k ≡ d → get_or (set E k 0) x 1 ≡ 0 → (get_or E x 1 ≡ 0) ⊎ ((alone ≡ true) × ((row_at t x).start ≡ at) × ((row_at t x).end ≡ e))
-      go x true f z = let y : x ≡ k = eqb_true x k f in inr (a, ap (λ (o : ℕ). (row_at t o).start) y ∙ b, ap (λ (o : ℕ). (row_at t o).end) y ∙ c)
+      go x true f z = let y : x ≡ k = eqb-true x k f in inr (a, ap (λ (o : ℕ). (row_at t o).start) y ∙ b, ap (λ (o : ℕ). (row_at t o).end) y ∙ c)
       go x false f z = inl (sym (get_or-set_other E k x 0 1 (eqb-false x k f)) ∙ z)
 
 -- what an object tells is so

@@ -9,7 +9,7 @@ use native.Mathlib.Omega.{arith}
 use lib.ListN.{length, get_or, set, length-set}
 use lib.Seq.{get_or-set_same, get_or-set_other}
 use lib.Dec.{eqb, eqb→eq, T}
-use borrow.Author.Tests.{eqb_true, eqb-false, eq-eqb, ne_eqb}
+use borrow.Author.Tests.{eqb-true, eqb-false, eq-eqb, ne_eqb}
 use Rattle.lexis.specs.Bytes.{stands}
 use Rattle.lexis.specs.Utf8.{Formed}
 use Rattle.lexis.specs.String.{Mode}
@@ -298,7 +298,7 @@ module _ (s text t : List ℕ) (n : ℕ) where
             -- a piece has a parent, but its numbers do not turn on it
             go : (b : Bool) → eqb (row_at t r).kind 9 ≡ b → Placed (used (row_at t) r) (row_at t r)
             go false e = placed_of s text 0 (used (row_at t) r) (row_at t r) (f.words r (omega (arith, w.few)) (eqb-false (row_at t r).kind 9 e))
-            go true e = let (σ, y) = w.homed f r mine (eqb_true (row_at t r).kind 9 e) in placed_of s text σ (used (row_at t) r) (row_at t r) y
+            go true e = let (σ, y) = w.homed f r mine (eqb-true (row_at t r).kind 9 e) in placed_of s text σ (used (row_at t) r) (row_at t r) y
 
     -- both are right: on
     module _ (long : length t ≡ 7 * n) {D' : List ℕ} {b : Bool} (yes : b ≡ true) (x : NodeBy s text t r D D' b) {c : Used} (good : c.good ≡ true) (v : Columns (row_at t r) u c) where
@@ -366,7 +366,7 @@ module _ (s text t : List ℕ) (n : ℕ) where
               off_own att j (λ e. omega (arith, low_r)) ∙ a j (onto_old x.kids last.rest j m) ∙ ap coded (x.same yes j l)
 
           by_place : (att : ℕ → Depth) → ((j : ℕ) → T (has (onto x.kids last.rest) j) → att j ≡ coded (get_or D' j 0)) → ((k : ℕ) → k < r → Fit att k) → (k : ℕ) (o : Bool) → eqb k r ≡ o → k < i → Fit (with_own att) k
-          by_place att a f k true e l = subst (Fit (with_own att)) (sym (eqb_true k r e)) (row_fit att (λ j m. a j (onto_new x.kids last.rest j m)))
+          by_place att a f k true e l = subst (Fit (with_own att)) (sym (eqb-true k r e)) (row_fit att (λ j m. a j (onto_new x.kids last.rest j m)))
           by_place att a f k false e l =
               let n = eqb-false k r e in
               fit_same att (with_own att) k (λ j z. sym (off_own att j (λ y. n (omega arith)))) (f k (other k n l))
@@ -375,7 +375,7 @@ module _ (s text t : List ℕ) (n : ℕ) where
               other k n l = omega arith
 
           told_at : (k : ℕ) (o : Bool) → eqb k r ≡ o → r ≤ k → k < n → Told r → Told k
-          told_at k true e a l y = subst Told (sym (eqb_true k r e)) y
+          told_at k true e a l y = subst Told (sym (eqb-true k r e)) y
           told_at k false e a l y = let z = eqb-false k r e in w.told k (omega arith) l
 
           back_at : (h : Full s t text n) (j : ℕ) → T (has x.kids j) ⊎ T (has last.rest j) → h.rule.att j ≡ coded (get_or D' j 0)

@@ -1,3 +1,4 @@
+#![tactic(auto)]
 // The checker: a table and a text from anyone, tested against a source. It reads nothing anew and builds no tree.
 ghost use Rattle.std.specs.Prelude.{◌≤◌, length};
 ghost use Rattle.checker.specs.Check.{Rooted, Ready, Walking, Checks};

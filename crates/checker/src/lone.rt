@@ -7,7 +7,7 @@ use lexis::bytes::{byte_at, is_space, one_at, two_at};
 use lexis::operator::equals_end;
 
 // Of each `/*` whose text starts from `from` to `to`, but not with `/`: whether `=` or `:` stands behind the same-line space that it starts.
-#[derive(Drop)]
+#[derive(Clone, Copy, Drop)]
 pub struct Memo {
     pub from: usize,
     pub to: usize,
@@ -15,7 +15,7 @@ pub struct Memo {
 }
 
 // Whether `=` or `:` stands behind some space, and what is known then.
-#[derive(Drop)]
+#[derive(Clone, Copy, Drop)]
 pub struct Lone {
     pub yes: bool,
     pub memo: Memo,

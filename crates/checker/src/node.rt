@@ -113,7 +113,7 @@ fn heredoc(
 }
 
 // Whether a row may be a left operand, and where the binary operator behind it ends; its own end where none stands there.
-#[derive(Drop)]
+#[derive(Clone, Copy, Drop)]
 pub struct Left {
     pub good: bool,
     pub end: usize,

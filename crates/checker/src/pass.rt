@@ -14,14 +14,14 @@ use index::{find, insert};
 const ITEM: u8 = 4;
 
 // Whether a key was met before, and how many are kept with it.
-#[derive(Drop)]
+#[derive(Clone, Copy, Drop)]
 pub struct Met {
     pub met: bool,
     pub keys: usize,
 }
 
 // Whether a child is right in its place; where it ends, the row of the next one, and how many keys are kept.
-#[derive(Drop)]
+#[derive(Clone, Copy, Drop)]
 pub struct Passed {
     pub good: bool,
     pub end: usize,

@@ -10,7 +10,7 @@ use grammar::program;
 pub use grammar::program::{Child, Instr};
 
 // What is wanted, besides what grammar's program asks for.
-#[derive(Drop)]
+#[derive(Clone, Copy, Drop)]
 pub struct Want(pub u8);
 
 impl Want {

@@ -3,7 +3,7 @@ ghost use Rattle.std.specs.Prelude.{◌+◌, ◌*◌, ◌≤◌, ◌<◌, length
 ghost use Rattle.checker.specs.LeafMore.{Cell, RowHere};
 
 // A row: a record's seven numbers.
-#[derive(Drop)]
+#[derive(Clone, Copy, Drop)]
 pub struct Row {
     pub kind: usize,
     pub flag: usize,

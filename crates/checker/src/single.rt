@@ -11,7 +11,7 @@ use grammar::kinds::Kind;
 use grammar::picks::head_at;
 
 // Whether one look tells of a row, and what.
-#[derive(Drop)]
+#[derive(Clone, Copy, Drop)]
 pub struct Look {
     pub sure: bool,
     pub yes: bool,

@@ -13,7 +13,7 @@ use lexis::bytes::{one_at, two_at};
 use lexis::string::{Run, Why, run_at, unit_at};
 
 // Whether a record's text numbers are right, and how many bytes of text are used before it.
-#[derive(Drop)]
+#[derive(Clone, Copy, Drop)]
 pub struct Used {
     pub good: bool,
     pub before: usize,

@@ -2,11 +2,11 @@
 use Prim.Native.Nat.{ℕ, zero, suc, ◌+◌, ◌-◌, ◌*◌, ◌≤◌, ◌<◌}
 use mathlib.Core.Path.{◌≡◌, refl, sym, ap, subst, ◌∙◌}
 use mathlib.Core.List.{List, [], ◌∷◌}
-use mathlib.Core.Bool.{Bool, true, false, cond, not, ◌&&◌, ◌||◌, and_false}
+use mathlib.Core.Bool.{Bool, true, false, cond, not, ◌&&◌, ◌||◌, and-false}
 use native.Mathlib.Omega.{arith}
 use lib.ListN.{length}
 use lib.Dec.{T, eqb, leb}
-use borrow.Author.Tests.{eq-eqb, ne_eqb, eqb_true, leb-true, lt-leb}
+use borrow.Author.Tests.{eq-eqb, ne_eqb, eqb-true, leb-true, lt-leb}
 use Rattle.lexis.specs.declared.trivia.Gap.{Gap}
 use Rattle.lexis.specs.declared.operator.Op.{Op}
 use Rattle.lexis.specs.Bytes.{byte_at, is_digit, is_start, is_rest, stands, Byte, Ran}
@@ -53,7 +53,7 @@ walk_minus s p b σ e = rw (stands_one 45 s p refl, ne_eqb (byte_at s p) 45 (λ 
     native e = go (leb 128 (byte_at s p)) refl
       where
         over : 128 ≤ byte_at s p → is_digit (byte_at s p) ≡ false
-        over h = rw (lt-leb (byte_at s p) 57 (omega arith)) (and_false (leb 48 (byte_at s p)))
+        over h = rw (lt-leb (byte_at s p) 57 (omega arith)) (and-false (leb 48 (byte_at s p)))
 
         go : (b : Bool) → leb 128 (byte_at s p) ≡ b → (b && leb (byte_at s p) 255) ≡ false
         go true z = clash (sym (rw (over (leb-true 128 (byte_at s p) z)) at e))
@@ -152,7 +152,7 @@ each_has P [] t k h = absurd h
 each_has P (x ∷ xs) (a, t) k h = go (eqb x k) refl h (each_has P xs t k)
   where
     go : (b : Bool) → eqb x k ≡ b → T (b || has xs k) → (T (has xs k) → P k) → P k
-    go true e u f = subst P (eqb_true x k e) a
+    go true e u f = subst P (eqb-true x k e) a
     go false e u f = f u
 
 abbrev binaries : List ℕ

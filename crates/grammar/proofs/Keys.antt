@@ -2,7 +2,7 @@
 use Prim.Native.Nat.{ℕ, zero, suc, ◌+◌, ◌-◌, ◌*◌, ◌≤◌, ◌<◌}
 use mathlib.Core.Path.{◌≡◌, refl, sym, ap, subst, ◌∙◌}
 use mathlib.Core.List.{List, [], ◌∷◌}
-use mathlib.Core.Bool.{Bool, true, false, cond, not, ◌&&◌, ◌||◌, or_true}
+use mathlib.Core.Bool.{Bool, true, false, cond, not, ◌&&◌, ◌||◌, or-true}
 use mathlib.Core.Option.{none}
 use native.Mathlib.Omega.{arith}
 use lib.ListN.{length, drop}
@@ -73,7 +73,7 @@ module _ {s : List ℕ} {p e x : ℕ} {g : Gap} (st : is_start (byte_at s p) ≡
   lone_by : (y : ℕ) → y ≡ x → (not (eqb (equals_to s g.at) g.at) || is_mark (58 ∷ []) ((58 ∷ 58 ∷ []) ∷ []) s g.at) ≡ true
   lone_by zero z = absurd (n (sym z))
   lone_by (suc zero) z = rw (sg.equals (sym z), ne_eqb (g.at + 1) g.at (λ w. omega arith))
-  lone_by (suc (suc zero)) z = rw (sg.colon (sym z)).1 (or_true (not (eqb (equals_to s g.at) g.at)))
+  lone_by (suc (suc zero)) z = rw (sg.colon (sym z)).1 (or-true (not (eqb (equals_to s g.at) g.at)))
   lone_by (suc (suc (suc y))) z = absurd (omega (arith, sg.few))
 
   is_lone : lone s p ≡ true

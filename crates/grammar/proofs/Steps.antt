@@ -6,7 +6,7 @@ use mathlib.Core.Bool.{Bool, true, false, cond, not, ◌&&◌, ◌||◌}
 use native.Mathlib.Omega.{arith}
 use lib.ListN.{length, get_or}
 use lib.Dec.{eqb, ltb}
-use borrow.Author.Tests.{eq-eqb, ne_eqb, eqb_true, eqb-false, ltb-true}
+use borrow.Author.Tests.{eq-eqb, ne_eqb, eqb-true, eqb-false, ltb-true}
 use Rattle.lexis.specs.declared.trivia.Gap.{Gap}
 use Rattle.lexis.specs.Bytes.{byte_at, is_foreign, stands, Byte, Ran}
 use Rattle.lexis.specs.Trivia.{gap_to, Gapped}
@@ -195,7 +195,7 @@ module _ (s : List ℕ) (left : ℕ) (lines : Bool) (p : ℕ) {r : Went} where
   made_operator k h =
       plain (operator k)
       (λ b σ. fair_when s p (takes (operator k)) (to (p + (op_at s p).width)) (unexpected s p) (eqb (op_at s p).kind k)
-      (λ z. let o = op_wide s p in (op_takes (ltb 0 k) refl (eqb_true (op_at s p).kind k z) o.wide, omega (arith, o.inside)))
+      (λ z. let o = op_wide s p in (op_takes (ltb 0 k) refl (eqb-true (op_at s p).kind k z) o.wide, omega (arith, o.inside)))
       (λ z. fair_unexpected s p (takes (operator k))))
       h (λ b b' σ σ'. refl)
     where

@@ -1,7 +1,7 @@
 -- Where the rule holds at every node of a tree, the tree has no more nodes, and no more text, than bytes.
 use Rattle.std.specs.Prelude.{ℕ, zero, suc, ◌+◌, ◌≤◌, ◌≡◌, refl, Bool, false, cond, ◌&&◌, eqb, leb, T}
 use Rattle.std.proofs.Math.Path.{sym, ap, subst}
-use Rattle.std.proofs.Common.{◌∙◌, inl, inr, arith, leb→le, eqb_true}
+use Rattle.std.proofs.Common.{◌∙◌, inl, inr, arith, leb→le, eqb-true}
 use mathlib.Core.List.{List, [], ◌∷◌, ◌++◌}
 use Rattle.std.proofs.Math.Bool.{true, not}
 use Rattle.std.proofs.Math.Option.{some}
@@ -199,7 +199,7 @@ module _ (s : List ℕ) where
   unfolding atom
   quote_is b σ p q e =
       by_test (is_mark (34 ∷ []) [] s p) e
-      (λ t f. (eqb_true (byte_at s p) 34 (sym (stands_one 34 s p refl) ∙ and_left (stands (34 ∷ []) s p) true t), sym (to_is f)))
+      (λ t f. (eqb-true (byte_at s p) 34 (sym (stands_one 34 s p refl) ∙ and_left (stands (34 ∷ []) s p) true t), sym (to_is f)))
       (λ t f. not_made s p f)
 
   run_is : (b : Under) (σ p q : ℕ) → byte_at s σ ≡ 34 → atom s b σ (run true) p ≡ to q → p + length (text_at quoted s p).bytes ≤ q

@@ -5,7 +5,7 @@ use Rattle.std.proofs.Math.Path.{subst, fun_ext}
 use Rattle.std.proofs.Math.Option.{some}
 use Rattle.std.proofs.Math.Seq.{drop-append_seam, take-length}
 use Rattle.std.proofs.Math.Dec.{eqb_refl}
-use borrow.Author.Tests.{eq-eqb, ne_eqb, eqb_true, eqb-false, lt-ltb, le-ltb, ltb-true, ltb-false}
+use borrow.Author.Tests.{eq-eqb, ne_eqb, eqb-true, eqb-false, lt-ltb, le-ltb, ltb-true, ltb-false}
 use Rattle.lexis.specs.Utf8.{Formed, none, more, sequence, first_bad, good_after}
 use Rattle.lexis.proofs.Sequences.{sequence_front, good_step, good_stop}
 use Rattle.lexis.proofs.Wellformed.{split, good_formed, formed_good}
@@ -81,7 +81,7 @@ module _ (s : List ℕ) where
   whole_ends t u = go (eqb (rec_of t).end (length s)) refl
     where
       go : (y : Bool) → eqb (rec_of t).end (length s) ≡ y → whole s y t ≡ ok u → (t ≡ u) × ((rec_of t).end ≡ length s)
-      go true e f = (ok_inj f, eqb_true (rec_of t).end (length s) e)
+      go true e f = (ok_inj f, eqb-true (rec_of t).end (length s) e)
       go false e f = halt_ok f
 
   pub derives_reading : (t : Tree ℕ) → Derives s t → reading s ≡ ok t
@@ -164,7 +164,7 @@ module _ (s : List ℕ) where
     at_end f t w = go (eqb (rec_of t).end (length s)) refl
       where
         go : (y : Bool) → eqb (rec_of t).end (length s) ≡ y → Answers s nodes text (answer_of s nodes text)
-        go true e = at_tree f t (record { derived = w; whole = eqb_true (rec_of t).end (length s) e })
+        go true e = at_tree f t (record { derived = w; whole = eqb-true (rec_of t).end (length s) e })
         go false e = given _ (unread f t w (eqb-false (rec_of t).end (length s) e))
 
     at_fair : Fair s → Answers s nodes text (answer_of s nodes text)
@@ -180,7 +180,7 @@ module _ (s : List ℕ) where
       where
         go : (x y : Bool) → ltb most (length s) ≡ x → eqb (first_bad s) (length s) ≡ y → Answers s nodes text (answer_of s nodes text)
         go true y e f = given _ (long (ltb-true most (length s) e))
-        go false true e f = at_fair (record { short = ltb-false most (length s) e; formed = good_formed s (eqb_true (first_bad s) (length s) f) })
+        go false true e f = at_fair (record { short = ltb-false most (length s) e; formed = good_formed s (eqb-true (first_bad s) (length s) f) })
         go false false e f =
             let x = split s in
             let n = eqb-false (first_bad s) (length s) f in

@@ -1,7 +1,7 @@
 -- Laws on keys: a key that begins with a word or a plain string, with `=` or `:` behind it, is that token alone; and no expression begins with `:`.
 use Rattle.std.specs.Prelude.{ℕ, ◌+◌, ◌≤◌, Bool, not, ◌&&◌, ◌||◌, ◌⊎◌, length, drop, leb, T}
 use Rattle.std.proofs.Math.Path.{◌≡◌, refl, sym, ap}
-use Rattle.std.proofs.Common.{◌∙◌, subst, inl, inr, arith, eqb_true, eq-eqb, ne_eqb, leb-true, drop-drop}
+use Rattle.std.proofs.Common.{◌∙◌, subst, inl, inr, arith, eqb-true, eq-eqb, ne_eqb, leb-true, drop-drop}
 use mathlib.Core.List.{List, [], ◌∷◌}
 use Rattle.std.proofs.Math.Bool.{true, false, cond}
 use Rattle.std.proofs.Math.Bool as bool
@@ -29,7 +29,7 @@ use Rattle.grammar.specs.Layouts.{layouts, layout_of, word_lay, ident_lay, strin
 use Rattle.grammar.specs.MoveLaws.{to_is, no_to, by_test, not_made}
 use Rattle.grammar.specs.BoundLaws.{one_atom}
 use Rattle.grammar.specs.Hcl.{hcl, follows, follow_at, terms, pick_at, grows, is_call}
-use Rattle.grammar.specs.StillLaws.{still_at, still_equals, still_test, or_true}
+use Rattle.grammar.specs.StillLaws.{still_at, still_equals, still_test, or-true}
 
 -- bytes that pass a test, at the front of a list
 begins_run : (t : ℕ → Bool) (w xs : List ℕ) → T (all_of t w) → begins w xs ≡ true → run t xs ≡ length w + run t (drop (length w) xs)
@@ -38,7 +38,7 @@ begins_run t [] xs u e = omega arith
 begins_run t (b ∷ w) [] u e = clash (sym e)
 begins_run t (b ∷ w) (x ∷ xs) u e =
     let (v, r) = and_t (t b) (all_of t w) u in
-    let z : x ≡ b = eqb_true x b (and_left (eqb x b) (begins w xs) e) in
+    let z : x ≡ b = eqb-true x b (and_left (eqb x b) (begins w xs) e) in
     let y : t x ≡ true = ap t z ∙ t_is (t b) v in
     rw y (omega (arith, begins_run t w xs r (and_right (eqb x b) (begins w xs) e)))
   where
@@ -89,9 +89,9 @@ module _ (s : List ℕ) where
     equals : stands (61 ∷ []) s q ≡ true → stands (61 ∷ 61 ∷ []) s q ≡ false → Behind q
     colon : byte_at s q ≡ 58 → stands (58 ∷ 58 ∷ []) s q ≡ false → Behind q
 
-  not_true : (b : Bool) → not b ≡ true → b ≡ false
-  not_true true e = sym e
-  not_true false e = refl
+  not-true : (b : Bool) → not b ≡ true → b ≡ false
+  not-true true e = sym e
+  not-true false e = refl
 
   -- a mark, and none of the longer ones
   mark_one : (a b : Bool) → (a && not (b || false)) ≡ true → (a ≡ true) × (b ≡ false)
@@ -110,16 +110,16 @@ module _ (s : List ℕ) where
     where
       go : (b : Bool) → not (eqb (cond b (q + 1) q) q) ≡ true → b ≡ true
       go true e = refl
-      go false e = absurd (eqb-false q q (not_true (eqb q q) e) refl)
+      go false e = absurd (eqb-false q q (not-true (eqb q q) e) refl)
 
   behind_by : (q : ℕ) → (not (eqb (equals_to s q) q) || is_mark (58 ∷ []) ((58 ∷ 58 ∷ []) ∷ []) s q) ≡ true → Behind q
-  behind_by q e = go (or_true (not (eqb (equals_to s q) q)) (is_mark (58 ∷ []) ((58 ∷ 58 ∷ []) ∷ []) s q) e)
+  behind_by q e = go (or-true (not (eqb (equals_to s q) q)) (is_mark (58 ∷ []) ((58 ∷ 58 ∷ []) ∷ []) s q) e)
     where
       go : (not (eqb (equals_to s q) q) ≡ true) ⊎ (is_mark (58 ∷ []) ((58 ∷ 58 ∷ []) ∷ []) s q ≡ true) → Behind q
       go (inl f) = let (a, b, c) = mark_two (stands (61 ∷ []) s q) (stands (61 ∷ 62 ∷ []) s q) (stands (61 ∷ 61 ∷ []) s q) (equals_mark q f) in equals a c
       go (inr f) =
           let (a, b) = mark_one (stands (58 ∷ []) s q) (stands (58 ∷ 58 ∷ []) s q) f in
-          colon (eqb_true (byte_at s q) 58 (sym (stands_one 58 s q refl) ∙ a)) b
+          colon (eqb-true (byte_at s q) 58 (sym (stands_one 58 s q refl) ∙ a)) b
 
   pub lone_behind : (a : ℕ) → lone s a ≡ true → Behind (behind_key s a)
   lone_behind a e = behind_by (behind_key s a) e
@@ -132,7 +132,7 @@ module _ (s : List ℕ) where
   -- neither `(` nor `::` stands there
   pub behind_call : (q : ℕ) → Behind q → (eqb (byte_at s q) 40 || stands (58 ∷ 58 ∷ []) s q) ≡ false
   behind_call q (equals e f) =
-      let z : byte_at s q ≡ 61 = eqb_true (byte_at s q) 61 (sym (stands_one 61 s q refl) ∙ e) in
+      let z : byte_at s q ≡ 61 = eqb-true (byte_at s q) 61 (sym (stands_one 61 s q refl) ∙ e) in
       rw (z, stands_two 58 58 s q refl refl, z)
   behind_call q (colon e f) = rw (e, f)
 
@@ -148,7 +148,7 @@ module _ (s : List ℕ) where
     where
       go : (is_mark (61 ∷ []) ((61 ∷ 61 ∷ []) ∷ (61 ∷ 62 ∷ []) ∷ []) s q ≡ true) ⊎ (is_mark (58 ∷ []) ((58 ∷ 58 ∷ []) ∷ []) s q ≡ true) → (not (eqb (equals_to s q) q) || is_mark (58 ∷ []) ((58 ∷ 58 ∷ []) ∷ []) s q) ≡ true
       go (inl e) = equals_by q (stands (61 ∷ []) s q) (stands (61 ∷ 61 ∷ []) s q) (stands (61 ∷ 62 ∷ []) s q) (is_mark (58 ∷ []) ((58 ∷ 58 ∷ []) ∷ []) s q) e
-      go (inr e) = rw e (bool.or_true (not (eqb (equals_to s q) q)))
+      go (inr e) = rw e (bool.or-true (not (eqb (equals_to s q) q)))
 
   -- ---- a key that may be equal to another: a word, or a plain string
 
@@ -176,13 +176,13 @@ module _ (s : List ℕ) where
 
       go : (x y : Bool) → is_start (byte_at s a) ≡ x → eqb (byte_at s a) 34 ≡ y → same_as k (cond x (word (rest_of (drop a s))) (cond y (string_at s (a + 1)) odd)) ≡ true → Likely a
       go true y e f h = is_word_lem e
-      go false true e f h = by (text_at quoted s (a + 1)).why refl (eqb_true (byte_at s a) 34 f) h
+      go false true e f h = by (text_at quoted s (a + 1)).why refl (eqb-true (byte_at s a) 34 f) h
       go false false e f h = clash (sym h ∙ other_not k)
 
   pub among_likely : (ks : List ℕ) (a : ℕ) → among s ks a ≡ true → Likely a
   unfolding among
   among_likely [] a e = clash (sym e)
-  among_likely (k ∷ ks) a e = go (or_true (same_key s k a) (among s ks a) e) (among_likely ks a)
+  among_likely (k ∷ ks) a e = go (or-true (same_key s k a) (among s ks a) e) (among_likely ks a)
     where
       go : (same_key s k a ≡ true) ⊎ (among s ks a ≡ true) → (among s ks a ≡ true → Likely a) → Likely a
       go (inl f) ih = likely_as (key_at s k) a f
@@ -194,7 +194,7 @@ module _ (s : List ℕ) where
   pub word_ends : (w : List ℕ) (p : ℕ) → T (all_of is_rest w) → is_start (byte_at s p) ≡ true → is_word w s p ≡ true → ident_to s p ≡ p + length w
   word_ends w p t e f =
       let a = and_left (stands w s p) (not (is_rest (byte_at s (p + length w)))) f in
-      let b = not_true (is_rest (byte_at s (p + length w))) (and_right (stands w s p) (not (is_rest (byte_at s (p + length w)))) f) in
+      let b = not-true (is_rest (byte_at s (p + length w))) (and_right (stands w s p) (not (is_rest (byte_at s (p + length w)))) f) in
       let r : is_rest (byte_at s p) ≡ true = rw e in
       let on = run_on is_rest s p (inside is_start s p refl e) r in
       let st = run_stop is_rest s (p + length w) b in

@@ -5,7 +5,7 @@ use Rattle.std.proofs.Common.{ap, arith}
 use mathlib.Core.List.{List, [], ◌∷◌}
 use Rattle.std.proofs.Math.Bool.{true}
 use Rattle.std.proofs.Math.Logic.{inl, inr}
-use borrow.Author.Tests.{eqb_true, eqb-false}
+use borrow.Author.Tests.{eqb-true, eqb-false}
 use Rattle.std.proofs.Math.Dec.{eqb, ltb→lt, T}
 use Rattle.lexis.specs.declared.trivia.Stop.{Stop}
 use Rattle.lexis.specs.declared.heredoc.Line.{Line}
@@ -192,7 +192,7 @@ module _ (s : List ℕ) where
         (λ u f. by_test (index_at s p).over f (λ v g. no_to g) (λ v g. let n = eqb-false (index_to s p) p u in let z = to_is g in omega arith)))
     atom_eats (operator k) m p q t e =
         inl (by_test (eqb (op_at s p).kind k) e
-        (λ u f. omega (arith, to_is f, ltb→lt 0 k t, eqb_true (op_at s p).kind k u, (op_wide s p).wide)) (λ u f. not_made s p f))
+        (λ u f. omega (arith, to_is f, ltb→lt 0 k t, eqb-true (op_at s p).kind k u, (op_wide s p).wide)) (λ u f. not_made s p f))
     atom_eats parts m p q t e = inr t
     atom_eats (unless c) m p q t e = inr t
     atom_eats comma m p q t e = inr t

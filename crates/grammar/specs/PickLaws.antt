@@ -1,7 +1,7 @@
 -- Laws on what a place calls for: which kinds it may be, and what the program and the tables say of these.
 use Rattle.std.specs.Prelude.{ℕ, zero, suc, ◌+◌, ◌≤◌, ◌≡◌, List, [], ◌∷◌, Bool, ◌&&◌, ◌||◌, drop, eqb, ltb}
 use Rattle.std.proofs.Math.Path.{refl}
-use Rattle.std.proofs.Common.{sym, ap, ◌∙◌, subst, arith, leb→le, eqb→eq, eqb_true, eq-eqb, ne_eqb, ltb-true}
+use Rattle.std.proofs.Common.{sym, ap, ◌∙◌, subst, arith, leb→le, eqb→eq, eqb-true, eq-eqb, ne_eqb, ltb-true}
 use Rattle.std.proofs.Math.Bool.{true, false, cond, not}
 use Rattle.std.proofs.Math.Option.{Option, none, some}
 use Rattle.std.proofs.Math.Dec.{T, leb}
@@ -33,7 +33,7 @@ listed q [] t k h = absurd h
 listed q (x ∷ xs) t k h = go (eqb x k) refl h (listed q xs (second (q x) (all_of q xs) t) k)
   where
     go : (b : Bool) → eqb x k ≡ b → T (b || has xs k) → (T (has xs k) → T (q k)) → T (q k)
-    go true e u f = subst (λ (n : ℕ). T (q n)) (eqb_true x k e) (first (q x) (all_of q xs) t)
+    go true e u f = subst (λ (n : ℕ). T (q n)) (eqb-true x k e) (first (q x) (all_of q xs) t)
     go false e u f = f u
 
 -- ---- a choice is one of its list

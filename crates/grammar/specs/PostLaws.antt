@@ -8,7 +8,7 @@ use Rattle.std.proofs.Math.Bool.{true, false}
 use Rattle.std.proofs.Math.Option.{none, some}
 use native.Mathlib.Omega.{arith}
 use Rattle.std.proofs.Math.Dec.{eqb, T}
-use borrow.Author.Tests.{eqb_true, eqb-false, eq-eqb, ne_eqb}
+use borrow.Author.Tests.{eqb-true, eqb-false, eq-eqb, ne_eqb}
 use Rattle.lexis.specs.Bytes.{byte_at, stands, begins}
 use Rattle.lexis.specs.Trivia.{gap_to, item, gap as gap'}
 use Rattle.lexis.specs.RunLaws.{clash, inside as within, next, and_left, and_right, stands_two}
@@ -563,7 +563,7 @@ module _ (s : List ℕ) where
       where
         go : (y : Bool) → stands (58 ∷ 58 ∷ []) s x.at ≡ y → (stands (58 ∷ []) s x.at && not (y || false)) ≡ true
         go true f =
-            let z : byte_at s (x.at + 1) ≡ 58 = eqb_true (byte_at s (x.at + 1)) 58 (and_right (eqb (byte_at s x.at) 58) (eqb (byte_at s (x.at + 1)) 58) (sym (stands_two 58 58 s x.at refl refl) ∙ f)) in
+            let z : byte_at s (x.at + 1) ≡ 58 = eqb-true (byte_at s (x.at + 1)) 58 (and_right (eqb (byte_at s x.at) 58) (eqb (byte_at s (x.at + 1)) 58) (sym (stands_two 58 58 s x.at refl refl) ∙ f)) in
             let v : x.value.start ≡ x.at + 1 = sym (skip_at false (x.at + 1) x.value.start g) ∙ colon_stays (x.at + 1) z in
             let (c, (us, d)) = first_child (under n false an_expression, 1) x.key es x.unders x.are in
             let (w, y) = first_child (under n ls an_expression, 0) x.value d refl refl in
@@ -572,7 +572,7 @@ module _ (s : List ℕ) where
 
     object_fresh : T (not (lone s σ && among s ks σ)) → (eqb (behind_key s σ) x.at && among s ks σ) ≡ false
     object_fresh h = no_both (eqb (behind_key s σ) x.at) (among s ks σ)
-        (λ be am. both_not (lone s σ) (among s ks σ) h (behind_lone s σ x.at (eqb_true (behind_key s σ) x.at be) (go x.marked)) am)
+        (λ be am. both_not (lone s σ) (among s ks σ) h (behind_lone s σ x.at (eqb-true (behind_key s σ) x.at be) (go x.marked)) am)
       where
         go : (is_mark (61 ∷ []) ((61 ∷ 61 ∷ []) ∷ (61 ∷ 62 ∷ []) ∷ []) s x.at ≡ true) ⊎ ((is_mark (58 ∷ []) [] s x.at ≡ true) × (skip s false (x.at + 1) ≡ to x.value.start))
             → (is_mark (61 ∷ []) ((61 ∷ 61 ∷ []) ∷ (61 ∷ 62 ∷ []) ∷ []) s x.at ≡ true) ⊎ (is_mark (58 ∷ []) ((58 ∷ 58 ∷ []) ∷ []) s x.at ≡ true)

@@ -1,7 +1,7 @@
 -- Laws on quiet moves: where one can be made, nothing follows an operand, past the operand's own trivia too.
 use Rattle.std.specs.Prelude.{ℕ, ◌+◌, ◌≡◌, Bool, cond, not, ◌&&◌, ◌||◌, ◌⊎◌, drop, eqb, T}
 use Rattle.std.proofs.Math.Path.{refl}
-use Rattle.std.proofs.Common.{sym, ap, ◌∙◌, subst, inl, inr, eqb_true}
+use Rattle.std.proofs.Common.{sym, ap, ◌∙◌, subst, inl, inr, eqb-true}
 use mathlib.Core.List.{List, [], ◌∷◌, ◌++◌}
 use Rattle.std.proofs.Math.Bool.{true, false}
 use Rattle.std.proofs.Math.Bool as bool
@@ -22,7 +22,7 @@ use Rattle.grammar.specs.Moves.{Under, to, Space, any, line, here, gap, mark, op
 use Rattle.grammar.specs.Layouts.{Class, inside, single, key, value, test, branch, term, right, entry, called, portion, piecewise, filter}
 use Rattle.grammar.specs.Hcl.{hcl, follows, follow_in, follow_at, grows, downs, is_quiet, quiet_mark, quiet, reaches, stilled}
 use Rattle.grammar.specs.MoveLaws.{to_is, no_to, by_test, by_then, not_made, stopping_to}
-use Rattle.grammar.specs.StillLaws.{Still, still_at, still_by, still_line, still_comment, still_stop, still_equals, still_two, still_test, or_true}
+use Rattle.grammar.specs.StillLaws.{Still, still_at, still_by, still_line, still_comment, still_stop, still_equals, still_two, still_test, or-true}
 
 -- ---- where a quiet move can be made, nothing follows
 
@@ -37,17 +37,17 @@ begins_on [] u xs e f = refl
 begins_on (b ∷ w) [] xs e f = clash (sym e)
 begins_on (b ∷ w) (c ∷ u) [] e f = clash (sym f)
 begins_on (b ∷ w) (c ∷ u) (x ∷ xs) e f =
-    let y : c ≡ b = eqb_true c b (and_left (eqb c b) (begins w u) e) in
+    let y : c ≡ b = eqb-true c b (and_left (eqb c b) (begins w u) e) in
     let z : eqb x b ≡ true = subst (λ (n : ℕ). eqb x n ≡ true) y (and_left (eqb x c) (begins u xs) f) in
     rw z (begins_on w u xs (and_right (eqb c b) (begins w u) e) (and_right (eqb x c) (begins u xs) f))
 
 any_on : (l : List (List ℕ)) (u s : List ℕ) (p : ℕ) → any_of l u 0 ≡ true → stands u s p ≡ true → any_of l s p ≡ true
 any_on [] u s p e f = e
-any_on (w ∷ l) u s p e f = go (or_true (begins w u) (any_of l u 0) e) (any_on l u s p)
+any_on (w ∷ l) u s p e f = go (or-true (begins w u) (any_of l u 0) e) (any_on l u s p)
   where
     go : (begins w u ≡ true) ⊎ (any_of l u 0 ≡ true) → (any_of l u 0 ≡ true → stands u s p ≡ true → any_of l s p ≡ true) → (stands w s p || any_of l s p) ≡ true
     go (inl g) ih = rw (begins_on w u (drop p s) g f)
-    go (inr g) ih = rw (ih g f) (bool.or_true (stands w s p))
+    go (inr g) ih = rw (ih g f) (bool.or-true (stands w s p))
 
 module _ (s : List ℕ) where
   -- a word
@@ -61,7 +61,7 @@ module _ (s : List ℕ) where
   mark_still : (w : List ℕ) (l : List (List ℕ)) (p : ℕ) → T (quiet_mark w l) → is_mark w l s p ≡ true → Still (drop p s)
   unfolding begins
   mark_still [] l p t e = absurd t
-  mark_still (c ∷ []) l p t e = go (or_true (is_quiet c) (eqb c 61 && any_of l (61 ∷ 61 ∷ []) 0) (is_true (is_quiet c || (eqb c 61 && any_of l (61 ∷ 61 ∷ []) 0)) t))
+  mark_still (c ∷ []) l p t e = go (or-true (is_quiet c) (eqb c 61 && any_of l (61 ∷ 61 ∷ []) 0) (is_true (is_quiet c || (eqb c 61 && any_of l (61 ∷ 61 ∷ []) 0)) t))
     where
       here : stands (c ∷ []) s p ≡ true
       here = and_left (stands (c ∷ []) s p) (not (any_of l s p)) e
@@ -74,7 +74,7 @@ module _ (s : List ℕ) where
           equals true f =
               let g = any_on l (61 ∷ 61 ∷ []) s p (and_right (eqb c 61) (any_of l (61 ∷ 61 ∷ []) 0) q) f in
               clash (sym (and_right (stands (c ∷ []) s p) (not (any_of l s p)) e) ∙ ap not g)
-          equals false f = still_equals (drop p s) (subst (λ (x : ℕ). stands (x ∷ []) s p ≡ true) (eqb_true c 61 (and_left (eqb c 61) (any_of l (61 ∷ 61 ∷ []) 0) q)) here) f
+          equals false f = still_equals (drop p s) (subst (λ (x : ℕ). stands (x ∷ []) s p ≡ true) (eqb-true c 61 (and_left (eqb c 61) (any_of l (61 ∷ 61 ∷ []) 0) q)) here) f
   mark_still (c ∷ d ∷ w) l p t e =
       still_by (c ∷ d ∷ w) (drop p s) (λ ys. still_two c d (w ++ ys) (is_true ((eqb c 61 && eqb d 62) || (eqb c 46 && eqb d 46)) t))
       (and_left (stands (c ∷ d ∷ w) s p) (not (any_of l s p)) e)
@@ -85,7 +85,7 @@ module _ (s : List ℕ) where
 
   byte_still : (c p : ℕ) → T (is_quiet c) → eqb (byte_at s p) c ≡ true → Still (drop p s)
   byte_still c p t e =
-      still_test is_quiet (drop p s) (ap is_quiet (front s p ∙ eqb_true (byte_at s p) c e) ∙ is_true (is_quiet c) t) refl tt refl refl refl
+      still_test is_quiet (drop p s) (ap is_quiet (front s p ∙ eqb-true (byte_at s p) c e) ∙ is_true (is_quiet c) t) refl tt refl refl refl
 
   module _ (b : Under) (σ : ℕ) where
     quiet_still : (m : Move) (p q : ℕ) → T (quiet m) → walk s b σ m p ≡ to q → Still (drop p s)

@@ -2,7 +2,7 @@
 use Rattle.std.specs.Prelude.{ℕ, suc, ◌≤◌, min, ◌≡◌, refl, List, Bool, true, cond, not, ◌||◌, ◌⊎◌, leb, T}
 use Rattle.std.proofs.Common.{sym, subst, inl, inr, arith, leb→le, le→leb}
 use Rattle.std.proofs.Math.Option.{Option, none, some}
-use Rattle.std.proofs.lemmas.Bool.{not_true}
+use Rattle.std.proofs.lemmas.Bool.{not-true}
 use Rattle.lexis.specs.Bytes.{begins}
 use Rattle.lexis.specs.RunLaws.{and_left, and_right}
 use Rattle.engine.specs.Base.{Rec, all_of}

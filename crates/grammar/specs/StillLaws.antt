@@ -1,6 +1,6 @@
 -- Laws on quiet places: where no operator, no `?` and no part of a traversal begins, nothing follows an operand.
 use Rattle.std.specs.Prelude.{ℕ, ◌≡◌, refl, Bool, true, false, cond, not, ◌&&◌, ◌||◌, ◌⊎◌, length, drop, eqb, ltb, T}
-use Rattle.std.proofs.Common.{sym, ◌∙◌, subst, inl, inr, eqb_true}
+use Rattle.std.proofs.Common.{sym, ◌∙◌, subst, inl, inr, eqb-true}
 use mathlib.Core.List.{List, [], ◌∷◌, ◌++◌}
 use Rattle.std.proofs.Math.Option.{none}
 use Rattle.lexis.specs.Bytes.{byte_at, begins}
@@ -24,16 +24,16 @@ still_at s p h = rw (← front s p) h
 
 -- ---- by the bytes that stand there
 
-pub or_true : (a b : Bool) → (a || b) ≡ true → (a ≡ true) ⊎ (b ≡ true)
-or_true true b e = inl refl
-or_true false b e = inr e
+pub or-true : (a b : Bool) → (a || b) ≡ true → (a ≡ true) ⊎ (b ≡ true)
+or-true true b e = inl refl
+or-true false b e = inr e
 
 begins_is : (w xs : List ℕ) → begins w xs ≡ true → xs ≡ w ++ drop (length w) xs
 unfolding begins
 begins_is [] xs e = refl
 begins_is (b ∷ w) [] e = clash (sym e)
 begins_is (b ∷ w) (x ∷ xs) e =
-    let z : x ≡ b = eqb_true x b (and_left (eqb x b) (begins w xs) e) in
+    let z : x ≡ b = eqb-true x b (and_left (eqb x b) (begins w xs) e) in
     let y : xs ≡ w ++ drop (length w) xs = begins_is w xs (and_right (eqb x b) (begins w xs) e) in
     cc
 
@@ -72,20 +72,20 @@ still_stop xs (inr (inr e)) = still_comment xs e
 pub still_equals : (xs : List ℕ) → begins (61 ∷ []) xs ≡ true → begins (61 ∷ 61 ∷ []) xs ≡ false → Still xs
 unfolding op_at begins
 still_equals [] e f = refl
-still_equals (x ∷ []) e f = rw (eqb_true x 61 (and_left (eqb x 61) true e))
+still_equals (x ∷ []) e f = rw (eqb-true x 61 (and_left (eqb x 61) true e))
 still_equals (x ∷ y ∷ ys) e f =
-    let z : x ≡ 61 = eqb_true x 61 (and_left (eqb x 61) true e) in
+    let z : x ≡ 61 = eqb-true x 61 (and_left (eqb x 61) true e) in
     let g : (eqb y 61 && true) ≡ false = rw z at f in
     rw (z, g)
 
 -- `=>` and `..`
 pub still_two : (c d : ℕ) (xs : List ℕ) → ((eqb c 61 && eqb d 62) || (eqb c 46 && eqb d 46)) ≡ true → Still (c ∷ d ∷ xs)
 unfolding op_at begins
-still_two c d xs t = go (or_true (eqb c 61 && eqb d 62) (eqb c 46 && eqb d 46) t)
+still_two c d xs t = go (or-true (eqb c 61 && eqb d 62) (eqb c 46 && eqb d 46) t)
   where
     go : ((eqb c 61 && eqb d 62) ≡ true) ⊎ ((eqb c 46 && eqb d 46) ≡ true) → Still (c ∷ d ∷ xs)
-    go (inl e) = rw (eqb_true c 61 (and_left (eqb c 61) (eqb d 62) e), eqb_true d 62 (and_right (eqb c 61) (eqb d 62) e))
-    go (inr e) = rw (eqb_true c 46 (and_left (eqb c 46) (eqb d 46) e), eqb_true d 46 (and_right (eqb c 46) (eqb d 46) e))
+    go (inl e) = rw (eqb-true c 61 (and_left (eqb c 61) (eqb d 62) e), eqb-true d 62 (and_right (eqb c 61) (eqb d 62) e))
+    go (inr e) = rw (eqb-true c 46 (and_left (eqb c 46) (eqb d 46) e), eqb-true d 46 (and_right (eqb c 46) (eqb d 46) e))
 
 -- ---- by a test that the first byte passes and that none of the bytes passes with which something begins that may follow
 
@@ -97,15 +97,15 @@ abbrev spares : (ℕ → Bool) → List Row → Bool
 spares t [] = true
 spares t (r ∷ rs) = spare t r.bytes && spares t rs
 
-not_false : (b : Bool) → T (not b) → b ≡ false
-not_false true t = absurd t
-not_false false t = refl
+not-false : (b : Bool) → T (not b) → b ≡ false
+not-false true t = absurd t
+not-false false t = refl
 
 module _ (t : ℕ → Bool) (x : ℕ) (xs : List ℕ) (e : t x ≡ true) where
   spared : (w : List ℕ) → T (spare t w) → begins w (x ∷ xs) ≡ false
   unfolding begins
   spared [] u = absurd u
-  spared (b ∷ w) u = rw (other t x b e (not_false (t b) u))
+  spared (b ∷ w) u = rw (other t x b e (not-false (t b) u))
 
   among_none : (rs : List Row) → T (spares t rs) → operator.among rs (x ∷ xs) ≡ no_op
   among_none [] u = refl

@@ -5,7 +5,7 @@ use Rattle.std.proofs.Common.{subst, ◌∙◌}
 use Rattle.std.proofs.Math.Bool.{true, false}
 use Rattle.std.proofs.Math.Option.{none, some}
 use native.Mathlib.Omega.{arith}
-use borrow.Author.Tests.{eqb_true, eqb-false, eq-eqb, ne_eqb}
+use borrow.Author.Tests.{eqb-true, eqb-false, eq-eqb, ne_eqb}
 use Rattle.lexis.specs.declared.heredoc.Opener.{Opener}
 use Rattle.lexis.specs.declared.string.Why.{Why}
 use Rattle.lexis.specs.declared.string.Why.TheVariants as why
@@ -143,10 +143,10 @@ module _ (s : List ℕ) (left : ℕ) (lines : Bool) (p : ℕ) where
 
   -- a quote stands before a string and a template, and `<<` before a heredoc
   pub pick_string : pick_at s (under left lines an_expression) p ≡ some 6 → byte_at s p ≡ 34
-  pick_string e = eqb_true (byte_at s p) 34 (or_none (eqb (byte_at s p) 34) (pick_chosen 6 e))
+  pick_string e = eqb-true (byte_at s p) 34 (or_none (eqb (byte_at s p) 34) (pick_chosen 6 e))
 
   pub pick_template : pick_at s (under left lines an_expression) p ≡ some 7 → byte_at s p ≡ 34
-  pick_template e = eqb_true (byte_at s p) 34 (and_left (eqb (byte_at s p) 34) (is_template s p) (or_none (eqb (byte_at s p) 34 && is_template s p) (pick_chosen 7 e)))
+  pick_template e = eqb-true (byte_at s p) 34 (and_left (eqb (byte_at s p) 34) (is_template s p) (or_none (eqb (byte_at s p) 34 && is_template s p) (pick_chosen 7 e)))
 
   pub pick_heredoc : pick_at s (under left lines an_expression) p ≡ some 8 → stands (60 ∷ 60 ∷ []) s p ≡ true
   pick_heredoc e = or_none (stands (60 ∷ 60 ∷ []) s p) (pick_chosen 8 e)
@@ -191,7 +191,7 @@ module _ (s : List ℕ) (a : Under) (σ : ℕ) (f : Bool) (d : ℕ) where
   word_ended : (e n : ℕ) (b : Bool) → eqb n 0 ≡ b → line_end s e ≡ n → d < e → atom s a σ ident d ≡ to e → Worded s a σ f d (cond b (fails e) (opens f d e (e + n)))
   unfolding atom
   word_ended e n true k h low g = record {
-    walks = two ident ending ∙ rw g (walk_one s a σ ending e ∙ rw (h, eq-eqb (e + n) e (omega (arith, eqb_true n 0 k))));
+    walks = two ident ending ∙ rw g (walk_one s a σ ending e ∙ rw (h, eq-eqb (e + n) e (omega (arith, eqb-true n 0 k))));
     dash = λ z. clash (sym z);
     past = λ z. clash (sym z);
   }

@@ -1,7 +1,7 @@
 -- The run of text at a place, as the atoms of the grammar see it: by its first unit.
 use Rattle.std.specs.Prelude.{ℕ, zero, suc, ◌+◌, ◌-◌, ◌≤◌, refl, Bool, true, false, cond, ◌&&◌, List, [], ◌∷◌, length, drop}
 use Rattle.std.proofs.Math.Path.{◌≡◌, ap}
-use Rattle.std.proofs.Common.{sym, ◌∙◌, arith, length-drop, get_or-drop, drop-drop, eqb_true, ne_eqb}
+use Rattle.std.proofs.Common.{sym, ◌∙◌, arith, length-drop, get_or-drop, drop-drop, eqb-true, ne_eqb}
 use Rattle.std.proofs.Math.Option.{Option, none, some}
 use Rattle.std.proofs.Math.Dec.{eqb}
 use Rattle.lexis.specs.declared.heredoc.Line.{Line}
@@ -146,7 +146,7 @@ module _ (b : ℕ) (s : List ℕ) where
       (λ f. either (eqb (byte_at s 0) 123) (λ g. marks_not why.Interpolation (λ o. refl) (λ e. behind ∙ rw (d, g))) (λ g. marks_is _ _ _ (behind ∙ rw (d, g))))
     where
       twice : (eqb (byte_at s 0) b && eqb (byte_at s 1) 123) ≡ true → byte_at s 0 ≡ 123 → ⊥
-      twice f g = omega (arith, eqb_true b 36 d, eqb_true (byte_at s 0) b (and_left (eqb (byte_at s 0) b) (eqb (byte_at s 1) 123) f))
+      twice f g = omega (arith, eqb-true b 36 d, eqb-true (byte_at s 0) b (and_left (eqb (byte_at s 0) b) (eqb (byte_at s 1) 123) f))
 
   marks_percent : {c : Bool} → begins (36 ∷ 123 ∷ []) (b ∷ s) ≡ false → Marks c (b ∷ s) (marker why.Directive b (byte_at s 0) (byte_at s 1))
   marks_percent h =

@@ -3,7 +3,7 @@ ghost use Rattle.std.specs.Prelude.{◌≡◌};
 ghost use Rattle.grammar.specs.Kinds.{tight_of};
 
 // A kind of node.
-#[derive(Drop)]
+#[derive(Clone, Copy, Drop)]
 pub struct Kind(pub u16);
 
 impl Kind {
@@ -95,7 +95,7 @@ impl Kind {
 }
 
 // A refusal.
-#[derive(Drop)]
+#[derive(Clone, Copy, Drop)]
 pub struct Refusal(pub u8);
 
 impl Refusal {
@@ -125,7 +125,7 @@ impl Refusal {
 }
 
 // A limit of 01.
-#[derive(Drop)]
+#[derive(Clone, Copy, Drop)]
 pub struct Limit(pub usize);
 
 impl Limit {

@@ -1,3 +1,4 @@
+#![tactic(auto)]
 // HCL's grammar as the reader and the checker ask it.
 pub mod kinds;
 pub mod moves;

@@ -14,7 +14,7 @@ use lexis::trivia::skip;
 use lexis::word::{for_end, ident_end, if_end, in_end, word_end};
 
 // Kind 0: gone to `at`; else a refusal and its place.
-#[derive(Drop)]
+#[derive(Clone, Copy, Drop)]
 pub struct Went {
     pub kind: u8,
     pub at: usize,

@@ -18,14 +18,14 @@ use lexis::trivia::{skip, skip_line};
 use lexis::word::{constant_at, for_end, ident_end};
 
 // A kind, and the end of its token where that is looked at; else the place itself.
-#[derive(Drop)]
+#[derive(Clone, Copy, Drop)]
 pub struct Head {
     pub kind: u16,
     pub end: usize,
 }
 
 // A key that is a word with a sign behind it: its kind as a term, its end, the place of the sign, and 1 for `:`. The end is the key's start for any other key.
-#[derive(Drop)]
+#[derive(Clone, Copy, Drop)]
 pub struct Key {
     pub kind: u16,
     pub end: usize,

@@ -1,7 +1,7 @@
 // What the program says: an instruction, and what a child is under.
 
 // An instruction: its operation; a flag, or where a move's atoms begin; the class of a child; where to go on otherwise.
-#[derive(Drop)]
+#[derive(Clone, Copy, Drop)]
 pub struct Instr {
     pub op: u8,
     pub arg: usize,
@@ -22,7 +22,7 @@ impl Instr {
 }
 
 // What a child is under: the levels left, whether a line end may stand there, the operators that are taken into it, and what is wanted.
-#[derive(Drop)]
+#[derive(Clone, Copy, Drop)]
 pub struct Child {
     pub left: usize,
     pub lines: bool,

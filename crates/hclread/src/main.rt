@@ -1,3 +1,4 @@
+#![tactic(auto)]
 // Reads a source from standard input and prints the answer, then a line for each record.
 use libc::STDIN_FILENO;
 

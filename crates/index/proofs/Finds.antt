@@ -6,7 +6,7 @@ use mathlib.Core.Bool.{Bool, true, false, cond, not, ◌||◌}
 use native.Mathlib.Omega.{arith}
 use lib.ListN.{length, get_or}
 use lib.Dec.{eqb, ltb}
-use borrow.Author.Tests.{eqb_true, eqb-false, ltb-true, ltb-false, not_true, not_false}
+use borrow.Author.Tests.{eqb-true, eqb-false, ltb-true, ltb-false, not-true, not-false}
 use Rattle.lexis.specs.Keys.{among, same_key}
 use Rattle.lexis.specs.RunLaws.{clash}
 use Rattle.index.specs.Mark.{mark_at}
@@ -119,8 +119,8 @@ module _ {s y : List ℕ} {first k : ℕ} (g : Indexed s y first k) where
   module _ {p h j : ℕ} (w : Seeking s y first k p h j) (e : same_key s (start_in y j) p ≡ false) {c : ℕ} (d : c ≡ child_in y j h) where
     pub search_next : Searching s y first k p (h / 2) c (not (eqb c 0))
     search_next = record {
-      ahead = λ z. seek_more g w e d (eqb-false c 0 (not_true (eqb c 0) z));
-      over = λ z. seek_end g w e (sym d ∙ eqb_true c 0 (not_false (eqb c 0) z));
+      ahead = λ z. seek_more g w e d (eqb-false c 0 (not-true (eqb c 0) z));
+      over = λ z. seek_end g w e (sym d ∙ eqb-true c 0 (not-false (eqb c 0) z));
     }
 
     pub search_less : {more : Bool} → more ≡ true → cond (not (eqb c 0)) (k - c) 0 < cond more (k - j) 0

@@ -1,6 +1,6 @@
 -- Equal keys have one mark.
 use Rattle.std.specs.Prelude.{ℕ, ◌+◌, ◌≡◌, refl, List, [], ◌∷◌, Bool, true, false, cond, ◌&&◌, drop, eqb}
-use Rattle.std.proofs.Common.{sym, eqb_true}
+use Rattle.std.proofs.Common.{sym, eqb-true}
 use Rattle.lexis.specs.Bytes.{byte_at, is_start}
 use Rattle.lexis.specs.String.{quoted, text_at}
 use Rattle.lexis.specs.Keys.{Key, word, plain, other, is_quote, rest_of, key_at, alike, same_as, same_key}
@@ -20,7 +20,7 @@ unfolding alike
 alike_same [] [] e = refl
 alike_same [] (y ∷ k) e = clash (sym e)
 alike_same (x ∷ l) [] e = clash (sym e)
-alike_same (x ∷ l) (y ∷ k) e = rw (eqb_true x y (and_left (eqb x y) (alike l k) e), alike_same l k (and_right (eqb x y) (alike l k) e))
+alike_same (x ∷ l) (y ∷ k) e = rw (eqb-true x y (and_left (eqb x y) (alike l k) e), alike_same l k (and_right (eqb x y) (alike l k) e))
 
 -- the mark of a key of two tests: a string's, a word's, or none
 abbrev mark_by : Bool → Bool → List ℕ → List ℕ → ℕ
@@ -49,7 +49,7 @@ same_mark_by false true c false true c' t l t' l' a b e = rw (alike_same l l' e)
 same_mark_by false true c false false c' t l t' l' a b e = clash (sym e)
 
 apart : (b : ℕ) → Apart (eqb b 34) (is_start b)
-apart b e = rw (eqb_true b 34 e)
+apart b e = rw (eqb-true b 34 e)
 
 pub same_mark : (s : List ℕ) (a b : ℕ) → same_key s a b ≡ true → mark_at s a ≡ mark_at s b
 unfolding mark_at key_at

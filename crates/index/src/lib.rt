@@ -1,3 +1,4 @@
+#![tactic(auto)]
 // The earlier keys of an object: a trie over the bits of their marks, in lent numbers.
 ghost use Rattle.std.specs.Prelude.{◌≡◌, ◌+◌, ◌*◌, ◌≤◌, length, eqb};
 ghost use Rattle.lexis.specs.Keys.{among};

@@ -94,7 +94,7 @@ pub fn mark(s: &[u8], p: usize) -> u16
 }
 
 // The first token of a key, a word or a plain string: its end, and the key's mark.
-#[derive(Drop)]
+#[derive(Clone, Copy, Drop)]
 pub struct Token {
     pub end: usize,
     pub mark: u16,

@@ -8,7 +8,7 @@ use native.Mathlib.Omega.{arith}
 use lib.ListN.{length, take, drop, take-append-drop}
 use lib.Seq.{drop-drop, split_at, take-suc, get_or-drop}
 use lib.Dec.{eqb}
-use borrow.Author.Tests.{eqb_true}
+use borrow.Author.Tests.{eqb-true}
 use Rattle.lexis.specs.Bytes.{byte_at}
 use Rattle.lexis.specs.Utf8.{Formed}
 use Rattle.lexis.specs.Utf8 as utf8
@@ -72,7 +72,7 @@ run_formed m s p f = go (text_at m s p).width refl (edge m (fresh_at s (p + (tex
     go (suc w) e (inr (inr h)) =
         let n : (p + suc w) - 1 ≡ p + w = omega arith in
         let b : byte_at s (p + w) ≡ 10 =
-        eqb_true (byte_at s (p + w)) 10 (ap (λ (k : ℕ). eqb (byte_at s k) 10) (sym n) ∙ sym (fresh_behind s (p + suc w) (λ z. omega arith)) ∙ rw e at h) in
+        eqb-true (byte_at s (p + w)) 10 (ap (λ (k : ℕ). eqb (byte_at s k) 10) (sym n) ∙ sym (fresh_behind s (p + suc w) (λ z. omega arith)) ∙ rw e at h) in
         cut_behind (drop p s) f w (rw (get_or-drop p s w 256) (omega arith))
 
 -- a run that starts right behind a byte less than 80 in a well-formed source has well-formed text

@@ -7,7 +7,7 @@ use native.Mathlib.Decide.{dec_lt}
 use native.Mathlib.Omega.{arith}
 use lib.ListN.{length, get_or}
 use lib.Dec.{eqb}
-use borrow.Author.Tests.{eq-eqb, eqb_true}
+use borrow.Author.Tests.{eq-eqb, eqb-true}
 use Rattle.lexis.specs.Keys.{Key, word, plain, other, alike, same_as, same_key, among, met_before}
 use Rattle.lexis.specs.RunLaws.{default, clash, and_left, and_right}
 use Rattle.lexis.proofs.Lines.{part_next, part_none}
@@ -18,7 +18,7 @@ alike_equal [] [] e = refl
 alike_equal [] (y ∷ k) e = clash (sym e)
 alike_equal (x ∷ l) [] e = clash (sym e)
 alike_equal (x ∷ l) (y ∷ k) e =
-    let f : x ≡ y = eqb_true x y (and_left (eqb x y) (alike l k) e) in
+    let f : x ≡ y = eqb-true x y (and_left (eqb x y) (alike l k) e) in
     let g : l ≡ k = alike_equal l k (and_right (eqb x y) (alike l k) e) in
     cc
 

@@ -2,14 +2,14 @@
 use Prim.Native.Nat.{ℕ, zero, suc, ◌+◌, ◌*◌, ◌/◌, ◌≤◌, ◌<◌}
 use mathlib.Core.Path.{◌≡◌, refl, sym, subst, ◌∙◌}
 use mathlib.Core.List.{List, [], ◌∷◌, ◌++◌, append_assoc, append-nil}
-use mathlib.Core.Bool.{Bool, true, false, cond, ◌&&◌, and_false}
+use mathlib.Core.Bool.{Bool, true, false, cond, ◌&&◌, and-false}
 use mathlib.Core.Option.{Option, none, some, none-ne-some}
 use native.Mathlib.Decide.{dec_le, dec_lt}
 use native.Mathlib.Omega.{arith}
 use lib.ListN.{length, get_or, take, drop, length-drop, length-take, take-append-drop}
 use lib.Dec.{leb, ltb, eqb}
 use lib.Seq.{get_or-take, drop-drop, drop-append_seam, drop-append-le, take-append-le, length-take-le, take-add, get_or-append_seam}
-use borrow.Author.Tests.{eqb_true, leb-true, ltb-true, lt-leb}
+use borrow.Author.Tests.{eqb-true, leb-true, ltb-true, lt-leb}
 use Rattle.lexis.specs.Bytes.{byte_at, is_hex}
 use Rattle.lexis.specs.Utf8.{Range, within, Row, table, fits, width_by, sequence, behind_of, Formed, is_scalar, six, encoded}
 use Rattle.lexis.specs.Utf8 as utf8
@@ -249,8 +249,8 @@ clean_marker y b l h = go (eqb (byte_at l 0) b && eqb (byte_at l 1) 123) (eqb (b
 
     go : (x z : Bool) → (eqb (byte_at l 0) b && eqb (byte_at l 1) 123) ≡ x → Clean (b ∷ l) (cond x (is 3 (b ∷ 123 ∷ []) true) (cond z (not y) (plain b)))
     go true z e = λ f.
-        let c : byte_at l 0 ≡ b = eqb_true (byte_at l 0) b (and_left (eqb (byte_at l 0) b) (eqb (byte_at l 1) 123) e) in
-        let d : byte_at l 1 ≡ 123 = eqb_true (byte_at l 1) 123 (and_right (eqb (byte_at l 0) b) (eqb (byte_at l 1) 123) e) in
+        let c : byte_at l 0 ≡ b = eqb-true (byte_at l 0) b (and_left (eqb (byte_at l 0) b) (eqb (byte_at l 1) 123) e) in
+        let d : byte_at l 1 ≡ 123 = eqb-true (byte_at l 1) 123 (and_right (eqb (byte_at l 0) b) (eqb (byte_at l 1) 123) e) in
         (low_cons b 2 l h (two c d), formed_append (formed_byte b h) (formed_byte 123 (omega arith)))
     go false true e = tt
     go false false e = clean_plain b l
@@ -260,7 +260,7 @@ hex_low b e = go (dec_lt b 0x80)
   where
     go : Dec (b < 0x80) → b < 0x80
     go (yes h) = h
-    go (no h) = clash (sym e ∙ rw (lt-leb b 57 (omega arith), lt-leb b 70 (omega arith), lt-leb b 102 (omega arith), and_false (leb 48 b), and_false (leb 65 b), and_false (leb 97 b)))
+    go (no h) = clash (sym e ∙ rw (lt-leb b 57 (omega arith), lt-leb b 70 (omega arith), lt-leb b 102 (omega arith), and-false (leb 48 b), and-false (leb 65 b), and-false (leb 97 b)))
 
 hexes_low : (n v : ℕ) (l : List ℕ) (x : ℕ) → hexes v n l ≡ some x → Low l n
 unfolding hexes
@@ -325,10 +325,10 @@ unit_clean q (b ∷ l) = go (eqb b 36) (eqb b 37) (q && eqb b 34) (q && eqb b 92
         (cond x₁ (marker Interpolation b (byte_at l 0) (byte_at l 1))
         (cond x₂ (marker Directive b (byte_at l 0) (byte_at l 1))
         (cond x₃ (not Quote) (cond x₄ (escape (byte_at l 0) (drop 1 l)) (plain b)))))
-    go true x₂ x₃ x₄ e f g = clean_marker Interpolation b l (omega (arith, eqb_true b 36 e))
-    go false true x₃ x₄ e f g = clean_marker Directive b l (omega (arith, eqb_true b 37 f))
+    go true x₂ x₃ x₄ e f g = clean_marker Interpolation b l (omega (arith, eqb-true b 36 e))
+    go false true x₃ x₄ e f g = clean_marker Directive b l (omega (arith, eqb-true b 37 f))
     go false false true x₄ e f g = tt
-    go false false false true e f g = clean_escape b l (omega (arith, eqb_true b 92 (and_right q (eqb b 92) g)))
+    go false false false true e f g = clean_escape b l (omega (arith, eqb-true b 92 (and_right q (eqb b 92) g)))
     go false false false false e f g = clean_plain b l
 
 -- a unit of a run is one of the text, so the same holds of it

@@ -2,7 +2,7 @@
 use Prim.Native.Nat.{ℕ, suc, ◌+◌, ◌<◌, ◌≤◌}
 use mathlib.Core.Path.{◌≡◌, refl, sym, ap, ◌∙◌}
 use mathlib.Core.List.{List, [], ◌∷◌}
-use mathlib.Core.Bool.{Bool, true, false, cond, ◌&&◌, ◌||◌, and_true, or_true, or-false}
+use mathlib.Core.Bool.{Bool, true, false, cond, ◌&&◌, ◌||◌, and-true, or-true, or-false}
 use native.Mathlib.Numerals.{add-one}
 use native.Mathlib.Nat.{add-zero}
 use native.Mathlib.Omega.{arith}
@@ -64,7 +64,7 @@ module _ (w s : List ℕ) (p : ℕ) where
 
 -- a small letter is an identifier character
 pub small_rest : (b : ℕ) → is_within 97 122 b ≡ true → is_rest b ≡ true
-small_rest b e = rw (e, or_true (leb 65 b && leb b 90))
+small_rest b e = rw (e, or-true (leb 65 b && leb b 90))
 
 -- identifier characters, by where a byte lies: below `-`, up to the digits, or behind them
 module _ (b : ℕ) where
@@ -75,7 +75,7 @@ module _ (b : ℕ) where
   rest_dash e = rw e
 
   pub rest_digit : b < 58 → (b ≡ 45 → ⊥) → leb 48 b ≡ is_rest b
-  rest_digit h n = sym (rw (lt-leb 65 b (omega arith), lt-leb 97 b (omega arith), ne_eqb b 95 (λ z. omega arith), le-leb b 57 (omega arith), ne_eqb b 45 n) (or-false (leb 48 b && true) ∙ and_true (leb 48 b)))
+  rest_digit h n = sym (rw (lt-leb 65 b (omega arith), lt-leb 97 b (omega arith), ne_eqb b 95 (λ z. omega arith), le-leb b 57 (omega arith), ne_eqb b 45 n) (or-false (leb 48 b && true) ∙ and-true (leb 48 b)))
 
   pub rest_start : 58 ≤ b → is_start b ≡ is_rest b
   rest_start h = sym (rw (le-leb 48 b (omega arith), lt-leb b 57 (omega arith), ne_eqb b 45 (λ z. omega arith)) (or-false (is_start b || false) ∙ or-false (is_start b)))

@@ -2,7 +2,7 @@
 use Prim.Native.Nat.{ℕ, suc, ◌+◌, ◌-◌, ◌*◌, ◌/◌, ◌%◌, ◌≤◌, ◌<◌}
 use mathlib.Core.Path.{◌≡◌, refl, sym, ap, ◌∙◌}
 use mathlib.Core.List.{List, [], ◌∷◌, ◌++◌}
-use mathlib.Core.Bool.{Bool, true, false, cond, ◌&&◌, and_true}
+use mathlib.Core.Bool.{Bool, true, false, cond, ◌&&◌, and-true}
 use mathlib.Core.Option.{Option, none, some}
 use native.Mathlib.Omega.{arith}
 use lib.ListN.{length, drop}
@@ -194,7 +194,7 @@ module _ {s : List ℕ} {i : ℕ} {x : Piece} (h : UnitHere s (unit true (drop i
       beside (b ∷ bs) k = strings_less Quote (text_at quoted s (i + x.width)).why b (bs ++ (text_at quoted s (i + x.width)).bytes)
 
   pub closes_by : x.width ≡ 0 → same_as (plain []) (string_at s i) ≡ is_quote x.why
-  closes_by n = rw (stops n) (strings_end Quote x.why ∙ and_true (is_quote x.why))
+  closes_by n = rw (stops n) (strings_end Quote x.why ∙ and-true (is_quote x.why))
 
 module _ {s : List ℕ} {a b i u n j v m : ℕ} (g : Left s a b i u n j v m) where
   -- nothing is left of the last unit

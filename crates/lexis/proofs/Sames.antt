@@ -6,7 +6,7 @@ use mathlib.Core.Bool.{Bool, true, false, cond, not, ◌||◌}
 use native.Mathlib.Omega.{arith}
 use lib.ListN.{length, get_or, drop}
 use lib.Dec.{eqb}
-use borrow.Author.Tests.{eq-eqb, ne_eqb, eqb_true, eqb-false}
+use borrow.Author.Tests.{eq-eqb, ne_eqb, eqb-true, eqb-false}
 use Rattle.lexis.specs.Bytes.{byte_at, is_start, is_rest, run, Byte}
 use Rattle.lexis.specs.Heredoc.{part}
 use Rattle.lexis.specs.String.{quoted, text_at}
@@ -90,11 +90,11 @@ module _ {s : List ℕ} {a b x y : ℕ} (h : Byte s a x) (k : Byte s b y) where
     where
       go : (p q r t : Bool) → is_start x ≡ p → is_start y ≡ q → eqb x 34 ≡ r → eqb y 34 ≡ t → same_key s a b ≡ false
       go true true r t e f d g = rw (key_word h e, key_word k f, ne_eqb x y n)
-      go true false r true e f d g = rw (key_word h e, key_string k (eqb_true y 34 g)) (word_string (x ∷ rest_of (drop (a + 1) s)) (text_at quoted s (b + 1)).bytes (is_quote (text_at quoted s (b + 1)).why))
+      go true false r true e f d g = rw (key_word h e, key_string k (eqb-true y 34 g)) (word_string (x ∷ rest_of (drop (a + 1) s)) (text_at quoted s (b + 1)).bytes (is_quote (text_at quoted s (b + 1)).why))
       go true false r false e f d g = rw (key_word h e, key_other k f (eqb-false y 34 g))
-      go false true true t e f d g = rw (key_string h (eqb_true x 34 d), key_word k f) (string_word (y ∷ rest_of (drop (b + 1) s)) (text_at quoted s (a + 1)).bytes (is_quote (text_at quoted s (a + 1)).why))
+      go false true true t e f d g = rw (key_string h (eqb-true x 34 d), key_word k f) (string_word (y ∷ rest_of (drop (b + 1) s)) (text_at quoted s (a + 1)).bytes (is_quote (text_at quoted s (a + 1)).why))
       go false q false t e f d g = rw (key_other h e (eqb-false x 34 d))
-      go false false true true e f d g = absurd (n (eqb_true x 34 d ∙ sym (eqb_true y 34 g)))
+      go false false true true e f d g = absurd (n (eqb-true x 34 d ∙ sym (eqb-true y 34 g)))
       go false false true false e f d g = rw (key_other k f (eqb-false y 34 g)) (beside_other (key_at s a))
 
   module _ (e : x ≡ y) where

@@ -2,7 +2,7 @@
 use Prim.Native.Nat.{ℕ, zero, suc, ◌+◌, ◌-◌, ◌≤◌, ◌<◌}
 use mathlib.Core.Path.{◌≡◌, refl, sym, ap, ◌∙◌}
 use mathlib.Core.List.{List, [], ◌∷◌, ◌++◌}
-use mathlib.Core.Bool.{Bool, true, false, cond, ◌&&◌, and_false, and_true, false≢true}
+use mathlib.Core.Bool.{Bool, true, false, cond, ◌&&◌, and-false, and-true, false≢true}
 use native.Mathlib.Numerals.{add-one, add-two}
 use native.Mathlib.Decide.{dec_lt}
 use native.Mathlib.Omega.{arith}
@@ -19,7 +19,7 @@ pub under : (l h b : ℕ) → b < l → within (l to h) b ≡ false
 under l h b e = rw (lt-leb l b e)
 
 pub over : (l h b : ℕ) → h < b → within (l to h) b ≡ false
-over l h b e = rw (lt-leb b h e) (and_false (leb l b))
+over l h b e = rw (lt-leb b h e) (and-false (leb l b))
 
 pub inside : (l h b : ℕ) → l ≤ b → b ≤ h → within (l to h) b ≡ true
 inside l h b e f = rw (le-leb l b e, le-leb b h f)
@@ -131,7 +131,7 @@ sequence_end s p h = rw (drop_of_length-le s h)
 pub fits_at_lem : (r : Range) (rs : List Range) → r.high < 256 → (s : List ℕ) (p : ℕ)
     → fits (r ∷ rs) (drop p s) ≡ (within r (byte_at s p) && fits rs (drop (suc p) s))
 unfolding fits
-fits_at_lem r rs h [] p = rw (drop-nil p, lt-leb 256 r.high h) (sym (ap (λ (x : Bool). x && fits rs (drop (suc p) [])) (and_false (leb r.low 256))))
+fits_at_lem r rs h [] p = rw (drop-nil p, lt-leb 256 r.high h) (sym (ap (λ (x : Bool). x && fits rs (drop (suc p) [])) (and-false (leb r.low 256))))
 fits_at_lem r rs h (x ∷ xs) zero = refl
 fits_at_lem r rs h (x ∷ xs) (suc p) = fits_at_lem r rs h xs p
 
@@ -159,7 +159,7 @@ module _ (s : List ℕ) (p low high n : ℕ) (h : high < 256) where
     unfolding fits
     behind_three a b l k f r g =
         let m : n ≡ 3 = omega arith in
-        rw (m, fits_at_lem (low to high) (tail ∷ tail ∷ []) h s p, e, fits_at_lem tail (tail ∷ []) (omega arith) s (suc p), ← add-one p, f, add-one p, fits_at_lem tail [] (omega arith) s (suc (suc p)), ← add-two p, g, and_true r)
+        rw (m, fits_at_lem (low to high) (tail ∷ tail ∷ []) h s p, e, fits_at_lem tail (tail ∷ []) (omega arith) s (suc p), ← add-one p, f, add-one p, fits_at_lem tail [] (omega arith) s (suc (suc p)), ← add-two p, g, and-true r)
 
 -- a sequence is within its list
 pub fits_long : (rs : List Range) (l : List ℕ) → fits rs l ≡ true → length rs ≤ length l

@@ -2,7 +2,7 @@
 use Prim.Native.Nat.{ℕ, zero, suc, ◌+◌, ◌-◌, ◌*◌, ◌/◌, ◌%◌, ◌≤◌, ◌<◌}
 use mathlib.Core.Path.{◌≡◌, refl, ◌∙◌}
 use mathlib.Core.List.{List, [], ◌∷◌}
-use mathlib.Core.Bool.{Bool, true, false, cond, and_false}
+use mathlib.Core.Bool.{Bool, true, false, cond, and-false}
 use mathlib.Core.Option.{none}
 use native.Mathlib.Decide.{dec_lt}
 use native.Mathlib.Omega.{arith}
@@ -118,7 +118,7 @@ module _ (v m : ℕ) (s : List ℕ) (q : ℕ) where
 -- a value over the last scalar stays over it
 pub hex_over : (n m v : ℕ) (l : List ℕ) → 0x10FFFF < v → scalar_as n (hexes v m l) ≡ not Escape
 unfolding hexes
-hex_over n zero v l h = rw (le-ltb v 0xD800 (omega arith), lt-leb v 0x10FFFF h, and_false (ltb 0xDFFF v))
+hex_over n zero v l h = rw (le-ltb v 0xD800 (omega arith), lt-leb v 0x10FFFF h, and-false (ltb 0xDFFF v))
 hex_over n (suc m) v [] h = refl
 hex_over n (suc m) v (b ∷ l) h = go (is_hex b) (hex_over n m (v * 16 + hex_of b) l (omega arith))
   where

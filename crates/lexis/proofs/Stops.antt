@@ -9,7 +9,7 @@ use native.Mathlib.Decide.{dec_lt}
 use native.Mathlib.Omega.{arith}
 use lib.ListN.{length, drop}
 use lib.Dec.{eqb}
-use borrow.Author.Tests.{eqb_true}
+use borrow.Author.Tests.{eqb-true}
 use Rattle.lexis.specs.Bytes.{byte_at}
 use Rattle.lexis.specs.Utf8.{is_scalar, encoded}
 use Rattle.lexis.specs.Heredoc.{closing, fresh_at}
@@ -44,7 +44,7 @@ marker_stopped y b l h = go (eqb (byte_at l 0) b && eqb (byte_at l 1) 123) (eqb 
   where
     go : (x z : Bool) → eqb (byte_at l 0) 123 ≡ z → Stopped (b ∷ l) (cond x (is 3 (b ∷ 123 ∷ []) true) (cond z (not y) (plain b)))
     go true z e = tt
-    go false true e = h (eqb_true (byte_at l 0) 123 e)
+    go false true e = h (eqb-true (byte_at l 0) 123 e)
     go false false e = tt
 
 scalar_stopped : (b : ℕ) (l : List ℕ) (n : ℕ) (o : Option ℕ) → b ≡ 92 → Stopped (b ∷ l) (scalar_as n o)
@@ -81,10 +81,10 @@ unit_stopped q (b ∷ l) = go (eqb b 36) (eqb b 37) (q && eqb b 34) (q && eqb b 
         (cond x₁ (marker Interpolation b (byte_at l 0) (byte_at l 1))
         (cond x₂ (marker Directive b (byte_at l 0) (byte_at l 1))
         (cond x₃ (not Quote) (cond x₄ (escape (byte_at l 0) (drop 1 l)) (plain b)))))
-    go true x₂ x₃ x₄ e f g h = marker_stopped Interpolation b l (λ c. (eqb_true b 36 e, c))
-    go false true x₃ x₄ e f g h = marker_stopped Directive b l (λ c. (eqb_true b 37 f, c))
-    go false false true x₄ e f g h = eqb_true b 34 (and_right q (eqb b 34) g)
-    go false false false true e f g h = escape_stopped b (byte_at l 0) l (drop 1 l) (eqb_true b 92 (and_right q (eqb b 92) h))
+    go true x₂ x₃ x₄ e f g h = marker_stopped Interpolation b l (λ c. (eqb-true b 36 e, c))
+    go false true x₃ x₄ e f g h = marker_stopped Directive b l (λ c. (eqb-true b 37 f, c))
+    go false false true x₄ e f g h = eqb-true b 34 (and_right q (eqb b 34) g)
+    go false false false true e f g h = escape_stopped b (byte_at l 0) l (drop 1 l) (eqb-true b 92 (and_right q (eqb b 92) h))
     go false false false false e f g h = tt
 
 -- the same by the text round a run: a heredoc's text may also end at a closing line

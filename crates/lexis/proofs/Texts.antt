@@ -2,7 +2,7 @@
 use Prim.Native.Nat.{ℕ, zero, suc, ◌+◌, ◌-◌, ◌≤◌, ◌<◌}
 use mathlib.Core.Path.{◌≡◌, refl, sym, ap, subst, ◌∙◌}
 use mathlib.Core.List.{List, [], ◌∷◌, ◌++◌}
-use mathlib.Core.Bool.{Bool, true, false, cond, ◌&&◌, ◌||◌, and_true}
+use mathlib.Core.Bool.{Bool, true, false, cond, ◌&&◌, ◌||◌, and-true}
 use mathlib.Core.Bool as bool
 use native.Mathlib.Nat.{zero-add}
 use native.Mathlib.Decide.{dec_lt}
@@ -10,7 +10,7 @@ use native.Mathlib.Omega.{arith}
 use lib.ListN.{length, take, drop, length-drop, length-append}
 use lib.Dec.{ltb, eqb}
 use lib.Seq.{get_or-drop, drop-drop, drop-cons, take-add}
-use borrow.Author.Tests.{ne_eqb, lt-ltb, le-ltb, eqb_true, ltb-true, ltb-false}
+use borrow.Author.Tests.{ne_eqb, lt-ltb, le-ltb, eqb-true, ltb-true, ltb-false}
 use Rattle.lexis.specs.Bytes.{byte_at, run_to, Byte, Ran}
 use Rattle.lexis.specs.Heredoc.{closing, fresh_at, part, line_as, line_at}
 use Rattle.lexis.specs.String.{Mode, quoted, heredoc, Unit, is, not, plain, marker, unit, line_or, unit_in, plain_in, Text, ended, added, unit_else, text_after, text_at, mode_of, packed, piece_of, run_of, RunHere, UnitHere}
@@ -180,7 +180,7 @@ lasts_marker y b l = go (eqb (byte_at l 0) b && eqb (byte_at l 1) 123) (eqb (byt
   where
     go : (x z : Bool) → (eqb (byte_at l 0) b && eqb (byte_at l 1) 123) ≡ x → Lasts (b ∷ l) (cond x (is 3 (b ∷ 123 ∷ []) true) (cond z (not y) (plain b)))
     go true z e =
-        let h : byte_at l 1 ≡ 123 = eqb_true (byte_at l 1) 123 (and_right (eqb (byte_at l 0) b) (eqb (byte_at l 1) 123) e) in
+        let h : byte_at l 1 ≡ 123 = eqb-true (byte_at l 1) 123 (and_right (eqb (byte_at l 0) b) (eqb (byte_at l 1) 123) e) in
         ap (λ (x : ℕ). eqb x 10) h ∙ sym (ne_eqb (packed (b ∷ 123 ∷ [])) 10 (λ k. omega (arith, pack_two b 123)))
     go false true e = tt
     go false false e = lasts_plain b l
@@ -315,7 +315,7 @@ module _ (q : Bool) {b : ℕ} (m : b ≡ 36 → ⊥) (n : b ≡ 37 → ⊥) (o :
   plain_high e h = sym (rw (ne_eqb b 36 m, ne_eqb b 37 n, ne_eqb b 256 o, ne_eqb b 34 h, e))
 
   pub plain_low : q ≡ true → (b ≡ 92 → ⊥) → bool.not (eqb b 34) ≡ plain_in q b
-  plain_low e h = sym (rw (ne_eqb b 36 m, ne_eqb b 37 n, ne_eqb b 256 o, ne_eqb b 92 h, e) (and_true (bool.not (eqb b 34))))
+  plain_low e h = sym (rw (ne_eqb b 36 m, ne_eqb b 37 n, ne_eqb b 256 o, ne_eqb b 92 h, e) (and-true (bool.not (eqb b 34))))
 
 -- bytes that are text as they stand, in quoted text or where no line starts: each is a unit, and no line starts behind it
 module _ (s : List ℕ) (p d e : ℕ) (q f : Bool) (o : q ≡ false → f ≡ false) where

@@ -2,14 +2,14 @@
 use Prim.Native.Nat.{ℕ, zero, suc, ◌+◌, ◌-◌, ◌≤◌, ◌<◌}
 use mathlib.Core.Path.{◌≡◌, refl, sym, ap, ◌∙◌}
 use mathlib.Core.List.{List, [], ◌∷◌}
-use mathlib.Core.Bool.{Bool, true, false, cond, ◌&&◌, ◌||◌, and_false}
+use mathlib.Core.Bool.{Bool, true, false, cond, ◌&&◌, ◌||◌, and-false}
 use native.Mathlib.Nat.{add-zero}
 use native.Mathlib.Decide.{dec_lt}
 use native.Mathlib.Omega.{arith}
 use lib.ListN.{length, get_or, drop}
 use lib.Dec.{eqb, ltb}
 use lib.Seq.{drop-drop}
-use borrow.Author.Tests.{ne_eqb, lt-ltb, eqb_true}
+use borrow.Author.Tests.{ne_eqb, lt-ltb, eqb-true}
 use Rattle.lexis.specs.declared.trivia.Gap.{Gap}
 use Rattle.lexis.specs.declared.trivia.Stop.{Stop}
 use Rattle.lexis.specs.Bytes.{byte_at, is_space, begins, stands, up_to}
@@ -85,7 +85,7 @@ module _ (s : List ℕ) (i : ℕ) where
           comment_same s i (i + 1) (reach_on ends_line s i h f)
       go true e =
           let f : ending (drop i s) ≡ 2 = ending_is s i ∙ rw (ne_eqb (byte_at s i) 10 n, e) in
-          let g : byte_at s (i + 1) ≡ 10 = eqb_true (byte_at s (i + 1)) 10 (sym (stands_one 10 s (i + 1) refl) ∙ and_right (eqb (byte_at s i) 13) (stands (10 ∷ []) s (i + 1)) e) in
+          let g : byte_at s (i + 1) ≡ 10 = eqb-true (byte_at s (i + 1)) 10 (sym (stands_one 10 s (i + 1) refl) ∙ and_right (eqb (byte_at s i) 13) (stands (10 ∷ []) s (i + 1)) e) in
           sym (comment_lf s (i + 1) g) ∙ ap (stop_at 1) (omega arith) ∙ comment_crlf s i f
 
 module _ (s : List ℕ) (p : ℕ) where
@@ -117,7 +117,7 @@ module _ (s : List ℕ) (p : ℕ) where
     closes_half n = closes_is ∙ rw (ne_eqb (get_or s (p - 1) 0) 42 n)
 
     pub closes_not : (get_or s p 0 ≡ 47 → ⊥) → closes (drop (p - 1) s) ≡ false
-    closes_not n = closes_is ∙ rw (ne_eqb (get_or s p 0) 47 n) (and_false (eqb (get_or s (p - 1) 0) 42))
+    closes_not n = closes_is ∙ rw (ne_eqb (get_or s p 0) 47 n) (and-false (eqb (get_or s (p - 1) 0) 42))
 
   pub closes_late : length s ≤ p + 1 → length s ≤ reach closes s p
   closes_late h = go (dec_lt p (length s)) (closes (drop p s)) refl
@@ -222,7 +222,7 @@ module _ (s : List ℕ) (p : ℕ) where
   stop_hash e = stop_is ∙ rw (ending_is s p, e)
 
   pub stop_slashes : {b : Bool} → b ≡ stands (47 ∷ []) s (p + 1) → b ≡ true → byte_at s (p + 1) ≡ 47
-  stop_slashes f g = eqb_true (byte_at s (p + 1)) 47 (sym (stands_one 47 s (p + 1) refl) ∙ sym f ∙ g)
+  stop_slashes f g = eqb-true (byte_at s (p + 1)) 47 (sym (stands_one 47 s (p + 1) refl) ∙ sym f ∙ g)
 
   pub stop_slash : {b : Bool} → byte_at s p ≡ 47 → b ≡ stands (47 ∷ []) s (p + 1) → stop_to s p ≡ cond b (line_comment p (drop p s)) (stop_at 0 p)
   stop_slash e f = stop_is ∙ rw (ending_is s p, e, ← f)

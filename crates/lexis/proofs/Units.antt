@@ -2,13 +2,13 @@
 use Prim.Native.Nat.{ℕ, zero, suc, ◌+◌, ◌*◌, ◌/◌, ◌≤◌, ◌<◌}
 use mathlib.Core.Path.{◌≡◌, refl, sym, ap, ◌∙◌}
 use mathlib.Core.List.{List, [], ◌∷◌}
-use mathlib.Core.Bool.{Bool, true, false, cond, ◌&&◌, and_false}
+use mathlib.Core.Bool.{Bool, true, false, cond, ◌&&◌, and-false}
 use mathlib.Core.Option.{Option, none, some, none-ne-some}
 use native.Mathlib.Omega.{arith}
 use lib.ListN.{length, get_or, take, drop, length-drop}
 use lib.Dec.{leb, ltb, eqb}
 use lib.Seq.{drop-drop, get_or-drop}
-use borrow.Author.Tests.{eq-eqb, ne_eqb, lt-ltb, eqb_true, ltb-true, ltb-false, leb-true}
+use borrow.Author.Tests.{eq-eqb, ne_eqb, lt-ltb, eqb-true, ltb-true, ltb-false, leb-true}
 use Rattle.lexis.specs.Bytes.{byte_at, is_hex}
 use Rattle.lexis.specs.Utf8.{is_scalar, six, encoded}
 use Rattle.lexis.specs.String.{Unit, is, not, plain, short, hex_of, hexes, scalar_as, scalar, escape, marker, unit, piece_of, UnitHere}
@@ -132,7 +132,7 @@ marker_sound y b l = go (eqb (byte_at l 0) b && eqb (byte_at l 1) 123) (eqb (byt
   where
     go : (x z : Bool) → (eqb (byte_at l 0) b && eqb (byte_at l 1) 123) ≡ x → Sound (b ∷ l) (cond x (is 3 (b ∷ 123 ∷ []) true) (cond z (not y) (plain b)))
     go true z e =
-        let h : 1 < length l = stands_at l 1 123 (eqb_true (byte_at l 1) 123 (and_right (eqb (byte_at l 0) b) (eqb (byte_at l 1) 123) e)) (omega arith) in
+        let h : 1 < length l = stands_at l 1 123 (eqb-true (byte_at l 1) 123 (and_right (eqb (byte_at l 0) b) (eqb (byte_at l 1) 123) e)) (omega arith) in
         strict (b ∷ l) 3 (b ∷ 123 ∷ []) (omega arith) (omega arith) (omega arith) (λ g. cons b (123 ∷ []) (g 0) (cons 123 [] (omega arith) nil))
     go false true e = tt
     go false false e = plain_sound b l
@@ -175,7 +175,7 @@ scalar_most v e = go (ltb v 0xD800) (leb v 0x10FFFF) refl refl
     go : (x y : Bool) → ltb v 0xD800 ≡ x → leb v 0x10FFFF ≡ y → v ≤ 0x10FFFF
     go true y a b = omega (arith, ltb-true v 0xD800 a)
     go false true a b = leb-true v 0x10FFFF b
-    go false false a b = clash (sym (rw (a, b, and_false (ltb 0xDFFF v)) at e))
+    go false false a b = clash (sym (rw (a, b, and-false (ltb 0xDFFF v)) at e))
 
 hexes_long : (n v : ℕ) (l : List ℕ) (x : ℕ) → hexes v n l ≡ some x → n ≤ length l
 unfolding hexes

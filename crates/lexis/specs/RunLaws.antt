@@ -2,7 +2,7 @@
 use Rattle.std.specs.Prelude.{ℕ, zero, suc, ◌+◌, ◌*◌, ◌-◌, ◌≤◌, ◌<◌, ◌≡◌, refl, List, [], ◌∷◌, Bool, true, cond, ◌&&◌, ◌||◌, length, get_or, eqb}
 use Rattle.std.proofs.Common.{sym, ◌∙◌, add-one, add-zero, arith, length-drop, drop_of_length-le, ne_eqb, drop-cons, get_or-drop, drop-drop}
 use Rattle.std.proofs.Math.Path.{ap}
-use Rattle.std.proofs.Math.Bool.{false, and_true}
+use Rattle.std.proofs.Math.Bool.{false, and-true}
 use Rattle.std.proofs.Math.ListN.{drop}
 use Rattle.lexis.specs.Bytes.{run, run_to, byte_at, begins, stands, up_to}
 
@@ -105,7 +105,7 @@ and_right true y e = e
 and_right false y e = clash (sym e)
 
 pub stands_one : (b : ℕ) (s : List ℕ) (p : ℕ) → eqb 256 b ≡ false → stands (b ∷ []) s p ≡ eqb (byte_at s p) b
-stands_one b s p n = stands_cons b [] s p n ∙ rw (stands_none s (p + 1)) (and_true (eqb (byte_at s p) b))
+stands_one b s p n = stands_cons b [] s p n ∙ rw (stands_none s (p + 1)) (and-true (eqb (byte_at s p) b))
 
 pub stands_two : (b c : ℕ) (s : List ℕ) (p : ℕ) → eqb 256 b ≡ false → eqb 256 c ≡ false
     → stands (b ∷ c ∷ []) s p ≡ (eqb (byte_at s p) b && eqb (byte_at s (p + 1)) c)

@@ -8,7 +8,7 @@ use crate::trivia::line_ending;
 use crate::word::ident_end;
 
 // What a line of a heredoc is: text; the closing line, with the end of its delimiter; or a scalar of 128 or more right after a delimiter, with its place.
-#[derive(Drop)]
+#[derive(Clone, Copy, Drop)]
 pub enum Line {
     Text,
     Closes(usize),
@@ -16,7 +16,7 @@ pub enum Line {
 }
 
 // An opener: its flag, its delimiter from `from` to `to`, and at `at` the start of the text; or, not good, the place at which something else stands.
-#[derive(Drop)]
+#[derive(Clone, Copy, Drop)]
 pub struct Opener {
     pub good: bool,
     pub dash: bool,

@@ -1,3 +1,4 @@
+#![tactic(auto)]
 // What stands at a place of the source.
 pub mod bytes;
 pub mod heredoc;

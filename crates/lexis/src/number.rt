@@ -6,7 +6,7 @@ ghost use Rattle.lexis.specs.Number.{digits_to, fraction_to, sign_to, is_exponen
 use crate::bytes::{byte_at, is_digit};
 
 // The end of a legacy index, and whether its value is over the limit.
-#[derive(Drop)]
+#[derive(Clone, Copy, Drop)]
 pub struct Index {
     pub end: usize,
     pub over: bool,

@@ -6,7 +6,7 @@ ghost use Rattle.lexis.specs.Operator.{op, OpHere, mark_to, question_to, colon_t
 use crate::bytes::{all_at, byte_at, one_at, two_at};
 
 // An operator: its kind, its level (the tightest is 6) and its width; all 0 for none.
-#[derive(Drop)]
+#[derive(Clone, Copy, Drop)]
 pub struct Op {
     pub kind: u16,
     pub level: u16,

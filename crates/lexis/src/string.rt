@@ -9,7 +9,7 @@ use crate::bytes::{NOTHING, byte_at, is_digit, within};
 use crate::heredoc::{Line, line_at, starts_line};
 
 // Why a run of literal text ends, or no unit stands at a place.
-#[derive(Drop)]
+#[derive(Clone, Copy, Drop)]
 pub enum Why {
     Quote,
     Interpolation,
@@ -21,7 +21,7 @@ pub enum Why {
 }
 
 // A unit: its width, 0 where none stands; its unescaped bytes in one number, the first lowest, and how many they are; and why none stands.
-#[derive(Drop)]
+#[derive(Clone, Copy, Drop)]
 pub struct Piece {
     pub width: usize,
     pub bytes: u32,
@@ -30,7 +30,7 @@ pub struct Piece {
 }
 
 // A run: where and why it ends, whether it has an escape or an escaped marker, and the length of its unescaped text.
-#[derive(Drop)]
+#[derive(Clone, Copy, Drop)]
 pub struct Run {
     pub end: usize,
     pub length: usize,

@@ -6,14 +6,14 @@ ghost use Rattle.lexis.specs.Trivia.{block, opens_comment, Ending, Placed, Iteme
 use crate::bytes::{byte_at, is_space, one_at};
 
 // Where trivia ends, or where the block comment starts that nothing closes.
-#[derive(Drop)]
+#[derive(Clone, Copy, Drop)]
 pub struct Gap {
     pub at: usize,
     pub unclosed: bool,
 }
 
 // What ends an object's item, and where.
-#[derive(Drop)]
+#[derive(Clone, Copy, Drop)]
 pub struct Stop {
     pub at: usize,
     pub how: u8,

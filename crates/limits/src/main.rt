@@ -1,3 +1,4 @@
+#![tactic(auto)]
 // Reads sources at the limits, with the room that each is to have, and prints for each the answer and the records.
 //
 // A case is 72 bytes: the numbers and the text bytes that are lent, four bytes each and the lowest first, and four parts of the source. A part is

@@ -1,3 +1,4 @@
+#![tactic(auto)]
 // The lines that the programs print of an answer.
 ghost use Rattle.io.specs.Counts.{IsPrefixLen};
 

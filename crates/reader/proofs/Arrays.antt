@@ -8,7 +8,7 @@ use mathlib.Core.List.{List, [], ◌∷◌}
 use native.Mathlib.Omega.{arith}
 use lib.ListN.{length}
 use lib.Dec.{eqb}
-use borrow.Author.Tests.{eqb_true, eq-eqb}
+use borrow.Author.Tests.{eqb-true, eq-eqb}
 use Rattle.reader.specs.declared.Step.{Step}
 use Rattle.grammar.specs.declared.moves.Went.{Went}
 use Rattle.lexis.specs.Bytes.{byte_at, stands, is_foreign}
@@ -259,7 +259,7 @@ module _ {s : List ℕ} {left : ℕ} {lines : Bool} {p i u : ℕ} {b b' x x' : L
 -- ---- an array by its kind
 
 pub array_square : (s : List ℕ) (left : ℕ) (lines : Bool) (p k : ℕ) → k ≡ 11 → pick_at s (under left lines an_expression) p ≡ some k → byte_at s p ≡ 91
-array_square s left lines p k f q = eqb_true (byte_at s p) 91 (text.or_none (eqb (byte_at s p) 91) (text.pick_chosen s left lines p 11 (q ∙ ap some f)))
+array_square s left lines p k f q = eqb-true (byte_at s p) 91 (text.or_none (eqb (byte_at s p) 91) (text.pick_chosen s left lines p 11 (q ∙ ap some f)))
 
 module _ {k : ℕ} (e : k ≡ 11) {s : List ℕ} {left : ℕ} {lines : Bool} {p i u K : ℕ} where
   pub array_as : {b b' x x' y y' : List ℕ} {r : Step} → SaidMade Any s (under_any 11 left lines) p any_before 11 (layout_of 11) p i u 0 p K b b' x x' y y' r → SaidMade Any s (under_any k left lines) p any_before k (layout_of k) p i u 0 p K b b' x x' y y' r

@@ -1,14 +1,14 @@
 -- A key that is a lone variable: which trees are one, and its record put anew as 14.
 use Prim.Native.Nat.{ℕ, suc, ◌+◌, ◌*◌, ◌/◌, ◌<◌}
 use mathlib.Core.Path.{◌≡◌, refl, sym, ap, subst, ◌∙◌}
-use mathlib.Core.Bool.{Bool, true, false, cond, not, ◌&&◌, ◌||◌, and_false}
+use mathlib.Core.Bool.{Bool, true, false, cond, not, ◌&&◌, ◌||◌, and-false}
 use mathlib.Core.Option.{Option, none, some}
 use mathlib.Core.List.{List, [], ◌∷◌}
 use native.Mathlib.Omega.{arith}
 use lib.ListN.{length, set, drop}
 use lib.Seq.{sets, length-sets, set-set, set_comm}
 use lib.Dec.{eqb, ltb, leb, T}
-use borrow.Author.Tests.{eqb_true, eqb-false, leb-true}
+use borrow.Author.Tests.{eqb-true, eqb-false, leb-true}
 use Rattle.engine.specs.Base.{Rec, Tree, Trees, node, nil, cons, rec_of, size, sizes, rename, choose}
 use Rattle.engine.specs.BaseLaws.{size_pos, unless_some, choose_all, alls, some_is}
 use Rattle.engine.specs.Engine.{done, stop, ask, Good, leads, grows, Fits, ends, asks, Whole}
@@ -93,11 +93,11 @@ digit_start : (b : ℕ) → is_start b ≡ true → is_digit b ≡ false
 digit_start b = go (leb 65 b) (leb 97 b) (eqb b 95) (leb 48 b) (leb b 57) (leb b 90) (leb b 122) refl refl refl refl refl
   where
     go : (u v w x y m n : Bool) → leb 65 b ≡ u → leb 97 b ≡ v → eqb b 95 ≡ w → leb 48 b ≡ x → leb b 57 ≡ y → (((u && m) || (v && n)) || w) ≡ true → (x && y) ≡ false
-    go u v w x false m n e₁ e₂ e₃ e₄ e₅ h = and_false x
+    go u v w x false m n e₁ e₂ e₃ e₄ e₅ h = and-false x
     go u v w false true m n e₁ e₂ e₃ e₄ e₅ h = refl
     go true v w true true m n e₁ e₂ e₃ e₄ e₅ h = absurd (omega (arith, leb-true 65 b e₁, leb-true b 57 e₅))
     go false true w true true m n e₁ e₂ e₃ e₄ e₅ h = absurd (omega (arith, leb-true 97 b e₂, leb-true b 57 e₅))
-    go false false true true true m n e₁ e₂ e₃ e₄ e₅ h = absurd (omega (arith, eqb_true b 95 e₃, leb-true b 57 e₅))
+    go false false true true true m n e₁ e₂ e₃ e₄ e₅ h = absurd (omega (arith, eqb-true b 95 e₃, leb-true b 57 e₅))
     go false false false true true m n e₁ e₂ e₃ e₄ e₅ h = clash (sym h)
 
 constant_none : (n y o : Bool) → n ≡ false → y ≡ false → o ≡ false → ◌≡◌ {A = ℕ} (cond n 1 (cond y 2 (cond o 3 0))) 0
@@ -201,7 +201,7 @@ bare_is s left lines j p (node k φ b e ts) (at, g, n) = subst (λ (y : ℕ). Ba
   where
     go : (x : Bool) → eqb k 5 ≡ x → Bare s b (node k φ b e ts)
     go true h =
-        let five : k ≡ 5 = eqb_true k 5 h in
+        let five : k ≡ 5 = eqb-true k 5 h in
         let (pick, flag, kids) = good_five s left lines j φ b e ts (subst (λ (x : ℕ). Good (grammar (hcl s)) (under left lines an_expression, j) (node x φ b e ts)) five g) in
         let tests = five_tests s left lines b pick in
         lone e (rw (five, flag, kids)) (rw (kids, tests.0, tests.1))
@@ -210,7 +210,7 @@ bare_is s left lines j p (node k φ b e ts) (at, g, n) = subst (λ (y : ℕ). Ba
         other : (x : Bool) → is_bare s b (suc (sizes ts)) ≡ x → x ≡ false
         other true f =
             let (one, start, word) = and_two (eqb (suc (sizes ts)) 1) (is_start (byte_at s b)) (eqb (constant_at s b) 0) f in
-            absurd (eqb-false k 5 h (good_one s left lines j k φ b e ts g (eqb_true (suc (sizes ts)) 1 one) start (eqb_true (constant_at s b) 0 word)))
+            absurd (eqb-false k 5 h (good_one s left lines j k φ b e ts g (eqb-true (suc (sizes ts)) 1 one) start (eqb-true (constant_at s b) 0 word)))
         other false f = refl
 
 -- ---- its record put anew

@@ -7,7 +7,7 @@ use mathlib.Core.List.{List, [], ◌∷◌}
 use native.Mathlib.Omega.{arith}
 use lib.ListN.{length}
 use lib.Dec.{eqb, leb, leb→le, T}
-use borrow.Author.Tests.{ne_eqb, eqb_true, eqb-false}
+use borrow.Author.Tests.{ne_eqb, eqb-true, eqb-false}
 use Rattle.reader.specs.declared.Step.{Step}
 use Rattle.engine.specs.Base.{Outcome, ok, halt, stuck, Rec, Tree, rec_of, has, all_of}
 use Rattle.engine.specs.BaseLaws.{has_all}
@@ -186,7 +186,7 @@ not_traversal : (s : List ℕ) (left : ℕ) (lines : Bool) (e f : ℕ) → Follo
 not_traversal s left lines e f next h = go (eqb f 0) refl
   where
     go : (b : Bool) → eqb f 0 ≡ b → tight_of f ≤ 7
-    go true z = let v : tight_of f ≡ 0 = ap tight_of (eqb_true f 0 z) in omega arith
+    go true z = let v : tight_of f ≡ 0 = ap tight_of (eqb-true f 0 z) in omega arith
     go false z = looser f (followed s e (under left lines an_expression) f (kind_some (follow_at s (under left lines an_expression) e) f (sym (next left)) (eqb-false f 0 z))) h
 
 -- ---- a term

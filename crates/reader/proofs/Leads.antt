@@ -6,7 +6,7 @@ use mathlib.Core.Option.{some}
 use mathlib.Core.List.{List, [], ◌∷◌}
 use native.Mathlib.Omega.{arith}
 use lib.Dec.{eqb}
-use borrow.Author.Tests.{eqb_true, eqb-false, eq-eqb, ne_eqb}
+use borrow.Author.Tests.{eqb-true, eqb-false, eq-eqb, ne_eqb}
 use Rattle.reader.specs.declared.Step.{Step}
 use Rattle.lexis.specs.declared.string.Why.{Why}
 use Rattle.lexis.specs.declared.string.Why.TheVariants as why
@@ -100,12 +100,12 @@ module _ {s : List ℕ} {lines : Bool} {p k e : ℕ} where
       }
         where
           go : (t : Bool) → eqb k 6 ≡ t → (t || eqb k 7) ≡ true → byte_at s p ≡ 34
-          go true z v = h.quote (eqb_true k 6 z)
+          go true z v = h.quote (eqb-true k 6 z)
           go false z v = quote_by s left lines p k (term_picked s lines p k (h.head (eqb-false k 6 z)).kind n left) (rw z v)
 
       pub lead_first : {i u K : ℕ} {b b' x x' y y' : List ℕ} {r : Step} → Said (Heads s (under left lines an_expression) p) s i u K p b b' x x' y y' r → Said (Firsts s (under left lines an_expression) p) s i u K p b b' x x' y y' r
       lead_first {i} {u} {K} {b} {b'} {x} {x'} {y} {y'} {r} w = go (eqb k 6) refl
         where
           go : (t : Bool) → eqb k 6 ≡ t → Said (Firsts s (under left lines an_expression) p) s i u K p b b' x x' y y' r
-          go true z = quote_first s left lines p (h.quote (eqb_true k 6 z)) w
+          go true z = quote_first s left lines p (h.quote (eqb-true k 6 z)) w
           go false z = first_head (h.head (eqb-false k 6 z)) n w

@@ -6,7 +6,7 @@ use mathlib.Core.Bool.{Bool, true, false, cond, not, ◌||◌}
 use native.Mathlib.Omega.{arith}
 use lib.ListN.{length, take, drop}
 use lib.Dec.{eqb, leb, ltb}
-use borrow.Author.Tests.{lt-ltb, le-ltb, le-leb, lt-leb, eq-eqb, ne_eqb, not_true, not_false}
+use borrow.Author.Tests.{lt-ltb, le-ltb, le-leb, lt-leb, eq-eqb, ne_eqb, not-true, not-false}
 use Rattle.reader.specs.Node.{is_text, within, part, number_at, text_as, text_in, has_as, has_text, text_of_node, node_has_text}
 
 pub is_string : {k : ℕ} → k ≡ 6 → true ≡ is_text k
@@ -27,35 +27,35 @@ beyond_part s a n h = ap (λ w. cond w (take n (drop a s)) []) (lt-leb _ _ h)
 
 module _ (s x : List ℕ) (k φ a n : ℕ) {t : Bool} (e : t ≡ is_text k) where
   pub textless : not t ≡ true → text_in s x k φ a n ≡ []
-  textless h = ap (λ y. text_as s x a n y (eqb φ 0) (eqb φ 1)) (sym e ∙ not_true _ h)
+  textless h = ap (λ y. text_as s x a n y (eqb φ 0) (eqb φ 1)) (sym e ∙ not-true _ h)
 
   pub has_none : not t ≡ true → has_text s x k φ a n ≡ false
-  has_none h = ap (λ y. has_as s x a n y (eqb φ 0) (eqb φ 1)) (sym e ∙ not_true _ h)
+  has_none h = ap (λ y. has_as s x a n y (eqb φ 0) (eqb φ 1)) (sym e ∙ not-true _ h)
 
   pub of_source : not t ≡ false → φ ≡ 0 → text_in s x k φ a n ≡ part s a n
-  of_source h z = ap (λ y. text_as s x a n y (eqb φ 0) (eqb φ 1)) (sym e ∙ not_false _ h) ∙ ap (λ y. text_as s x a n true y (eqb φ 1)) (eq-eqb _ _ z)
+  of_source h z = ap (λ y. text_as s x a n y (eqb φ 0) (eqb φ 1)) (sym e ∙ not-false _ h) ∙ ap (λ y. text_as s x a n true y (eqb φ 1)) (eq-eqb _ _ z)
 
   pub has_source : not t ≡ false → φ ≡ 0 → has_text s x k φ a n ≡ within s a n
-  has_source h z = ap (λ y. has_as s x a n y (eqb φ 0) (eqb φ 1)) (sym e ∙ not_false _ h) ∙ ap (λ y. has_as s x a n true y (eqb φ 1)) (eq-eqb _ _ z)
+  has_source h z = ap (λ y. has_as s x a n y (eqb φ 0) (eqb φ 1)) (sym e ∙ not-false _ h) ∙ ap (λ y. has_as s x a n true y (eqb φ 1)) (eq-eqb _ _ z)
 
   pub of_text : not t ≡ false → (φ ≡ 0 → ⊥) → φ ≡ 1 → text_in s x k φ a n ≡ part x a n
   of_text h z o =
-      ap (λ y. text_as s x a n y (eqb φ 0) (eqb φ 1)) (sym e ∙ not_false _ h) ∙ ap (λ y. text_as s x a n true y (eqb φ 1)) (ne_eqb _ _ z)
+      ap (λ y. text_as s x a n y (eqb φ 0) (eqb φ 1)) (sym e ∙ not-false _ h) ∙ ap (λ y. text_as s x a n true y (eqb φ 1)) (ne_eqb _ _ z)
       ∙ ap (λ y. text_as s x a n true false y) (eq-eqb _ _ o)
 
   pub has_words : not t ≡ false → (φ ≡ 0 → ⊥) → φ ≡ 1 → has_text s x k φ a n ≡ within x a n
   has_words h z o =
-      ap (λ y. has_as s x a n y (eqb φ 0) (eqb φ 1)) (sym e ∙ not_false _ h) ∙ ap (λ y. has_as s x a n true y (eqb φ 1)) (ne_eqb _ _ z)
+      ap (λ y. has_as s x a n y (eqb φ 0) (eqb φ 1)) (sym e ∙ not-false _ h) ∙ ap (λ y. has_as s x a n true y (eqb φ 1)) (ne_eqb _ _ z)
       ∙ ap (λ y. has_as s x a n true false y) (eq-eqb _ _ o)
 
   pub of_none : not t ≡ false → (φ ≡ 0 → ⊥) → (φ ≡ 1 → ⊥) → text_in s x k φ a n ≡ []
   of_none h z o =
-      ap (λ y. text_as s x a n y (eqb φ 0) (eqb φ 1)) (sym e ∙ not_false _ h) ∙ ap (λ y. text_as s x a n true y (eqb φ 1)) (ne_eqb _ _ z)
+      ap (λ y. text_as s x a n y (eqb φ 0) (eqb φ 1)) (sym e ∙ not-false _ h) ∙ ap (λ y. text_as s x a n true y (eqb φ 1)) (ne_eqb _ _ z)
       ∙ ap (λ y. text_as s x a n true false y) (ne_eqb _ _ o)
 
   pub has_not : not t ≡ false → (φ ≡ 0 → ⊥) → (φ ≡ 1 → ⊥) → has_text s x k φ a n ≡ false
   has_not h z o =
-      ap (λ y. has_as s x a n y (eqb φ 0) (eqb φ 1)) (sym e ∙ not_false _ h) ∙ ap (λ y. has_as s x a n true y (eqb φ 1)) (ne_eqb _ _ z)
+      ap (λ y. has_as s x a n y (eqb φ 0) (eqb φ 1)) (sym e ∙ not-false _ h) ∙ ap (λ y. has_as s x a n true y (eqb φ 1)) (ne_eqb _ _ z)
       ∙ ap (λ y. has_as s x a n true false y) (ne_eqb _ _ o)
 
 -- an empty list has only the empty part

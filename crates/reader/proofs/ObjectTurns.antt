@@ -7,7 +7,7 @@ use mathlib.Core.List.{List, [], ◌∷◌, ◌++◌, append-nil}
 use native.Mathlib.Omega.{arith}
 use lib.ListN.{length, drop}
 use lib.Dec.{eqb}
-use borrow.Author.Tests.{eqb_true}
+use borrow.Author.Tests.{eqb-true}
 use Rattle.engine.specs.Base.{halt, Rec, Tree, Trees, nil, one, join, rec_of, rename, renamed, choose, sizes}
 use Rattle.engine.specs.BaseLaws.{rename_id, some_is}
 use Rattle.engine.specs.FlatLaws.{sizes_join}
@@ -71,7 +71,7 @@ unexpected_no s p = go (is_foreign (byte_at s p))
 
 module _ (s : List ℕ) (b : Under) (σ p : ℕ) where
   brace_here : (c : ℕ) → eqb 256 c ≡ false → eqb (byte_at s p) c ≡ true → drop p s ≡ c ∷ drop (p + 1) s
-  brace_here c n h = next s p (inside (λ x. eqb x c) s p n h) ∙ ap (λ (x : ℕ). x ∷ drop (p + 1) s) (eqb_true (byte_at s p) c h)
+  brace_here c n h = next s p (inside (λ x. eqb x c) s p n h) ∙ ap (λ (x : ℕ). x ∷ drop (p + 1) s) (eqb-true (byte_at s p) c h)
 
   open_walk : (n : ℕ) → b.left ≡ suc n → eqb (byte_at s p) 123 ≡ true → walk s b σ (opening (123 ∷ [])) p ≡ to (p + 1)
   unfolding walk atom begins

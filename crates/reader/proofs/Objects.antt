@@ -6,7 +6,7 @@ use mathlib.Core.List.{List, [], ◌∷◌}
 use native.Mathlib.Omega.{arith}
 use lib.ListN.{drop}
 use lib.Dec.{eqb}
-use borrow.Author.Tests.{eqb_true}
+use borrow.Author.Tests.{eqb-true}
 use Rattle.lexis.specs.Bytes.{byte_at, begins}
 use Rattle.lexis.specs.Trivia.{stop}
 use Rattle.lexis.specs.Keys.{among}
@@ -37,7 +37,7 @@ then_end (no k p) f h = refl
 
 module _ (s : List ℕ) (q : ℕ) (h : eqb (byte_at s q) 125 ≡ true) where
   brace : byte_at s q ≡ 125
-  brace = eqb_true (byte_at s q) 125 h
+  brace = eqb-true (byte_at s q) 125 h
 
   brace_here : drop q s ≡ 125 ∷ drop (q + 1) s
   brace_here = next s q (inside (λ x. eqb x 125) s q refl h) ∙ ap (λ (x : ℕ). x ∷ drop (q + 1) s) brace

@@ -8,7 +8,7 @@ use mathlib.Core.List.{List, [], ◌∷◌}
 use native.Mathlib.Omega.{arith}
 use lib.ListN.{length}
 use lib.Dec.{eqb}
-use borrow.Author.Tests.{eqb_true, eq-eqb}
+use borrow.Author.Tests.{eqb-true, eq-eqb}
 use Rattle.reader.specs.declared.Step.{Step}
 use Rattle.grammar.specs.declared.moves.Went.{Went}
 use Rattle.lexis.specs.Bytes.{byte_at}
@@ -54,10 +54,10 @@ module _ (s : List ℕ) (p : ℕ) where
   picked {k} at n = choose_chosen k (portions s p) (kind_some (pick_at s (under 0 true a_part) p) k (sym (at 0 true)) n)
 
   pub part_dot : {k : ℕ} → PartAt s p k → k ≡ 38 → byte_at s p ≡ 46
-  part_dot {k} at e = eqb_true (byte_at s p) 46 (text.or_none (eqb (byte_at s p) 46) (ap (λ (n : ℕ). chosen n (portions s p)) (sym e) ∙ picked at (λ z. absurd (let w : ◌≡◌ {A = ℕ} 0 38 = sym z ∙ e in omega arith))))
+  part_dot {k} at e = eqb-true (byte_at s p) 46 (text.or_none (eqb (byte_at s p) 46) (ap (λ (n : ℕ). chosen n (portions s p)) (sym e) ∙ picked at (λ z. absurd (let w : ◌≡◌ {A = ℕ} 0 38 = sym z ∙ e in omega arith))))
 
   pub part_square : {k : ℕ} → PartAt s p k → k ≡ 42 → byte_at s p ≡ 91
-  part_square {k} at e = eqb_true (byte_at s p) 91 (text.or_none (eqb (byte_at s p) 91) (ap (λ (n : ℕ). chosen n (portions s p)) (sym e) ∙ picked at (λ z. absurd (let w : ◌≡◌ {A = ℕ} 0 42 = sym z ∙ e in omega arith))))
+  part_square {k} at e = eqb-true (byte_at s p) 91 (text.or_none (eqb (byte_at s p) 91) (ap (λ (n : ℕ). chosen n (portions s p)) (sym e) ∙ picked at (λ z. absurd (let w : ◌≡◌ {A = ℕ} 0 42 = sym z ∙ e in omega arith))))
 
 -- ---- a part
 

@@ -8,7 +8,7 @@ use mathlib.Core.List.{List, [], ◌∷◌}
 use native.Mathlib.Omega.{arith}
 use lib.ListN.{length}
 use lib.Dec.{eqb}
-use borrow.Author.Tests.{eqb_true, eqb-false, eq-eqb, ne_eqb}
+use borrow.Author.Tests.{eqb-true, eqb-false, eq-eqb, ne_eqb}
 use Rattle.reader.specs.declared.Step.{Step}
 use Rattle.lexis.specs.declared.heredoc.Opener.{Opener}
 use Rattle.lexis.specs.Bytes.{byte_at, stands, is_start, is_foreign}
@@ -176,7 +176,7 @@ module _ (s : List ℕ) (left : ℕ) (lines : Bool) (p : ℕ) (q : pick_at s (un
       pub heredoc_texting : (flag : ℕ) → flag ≤ 255 → Texting s p o.at 8 flag false o.from o.to
       heredoc_texting flag small = record {
         round =
-            let c = eqb_true (byte_at s p) 60 (and_left (eqb (byte_at s p) 60) (eqb (byte_at s (p + 1)) 60) marked) in
+            let c = eqb-true (byte_at s p) 60 (and_left (eqb (byte_at s p) 60) (eqb (byte_at s (p + 1)) 60) marked) in
             rw (ne_eqb (byte_at s p) 34 (λ z. omega arith), h.is);
         closes = inr (ap (λ (v : Opener). v.from) (sym h.is), ap (λ (v : Opener). v.to) (sym h.is));
         string = refl;

@@ -1,7 +1,7 @@
 -- What the functions round an object's items find.
 use Prim.Native.Nat.{ℕ, zero, suc, ◌+◌, ◌-◌, ◌≤◌, ◌<◌}
 use mathlib.Core.Path.{◌≡◌, refl, sym, ap, ◌∙◌}
-use mathlib.Core.Bool.{Bool, true, false, cond, not, ◌&&◌, ◌||◌, and_true, and_false}
+use mathlib.Core.Bool.{Bool, true, false, cond, not, ◌&&◌, ◌||◌, and-true, and-false}
 use mathlib.Core.List.{List, [], ◌∷◌}
 use native.Mathlib.Omega.{arith}
 use lib.ListN.{length, drop}
@@ -96,13 +96,13 @@ key_place {s} p key gap = ap (λ (x : Gap). x.at) gap.is ∙ ap (λ (x : ℕ). (
 
 module _ (s y : List ℕ) (first k p g : ℕ) {r : Bool} (f : r ≡ met_in s y first k p) where
   pub not_met : r ≡ false → false ≡ (eqb (behind_key s p) g && met_in s y first k p)
-  not_met n = let h : met_in s y first k p ≡ false = sym f ∙ n in sym (rw h (and_false (eqb (behind_key s p) g)))
+  not_met n = let h : met_in s y first k p ≡ false = sym f ∙ n in sym (rw h (and-false (eqb (behind_key s p) g)))
 
   pub met_here : {e : ℕ} {w : Gap} → r ≡ true → e ≡ key_to s p → Gapped false s e w → eqb w.at g ≡ (eqb (behind_key s p) g && met_in s y first k p)
   met_here {w = w} n key gap =
       let h : met_in s y first k p ≡ true = sym f ∙ n in
       let j : w.at ≡ behind_key s p = key_place p key gap in
-      rw (h, j) (sym (and_true (eqb (behind_key s p) g)))
+      rw (h, j) (sym (and-true (eqb (behind_key s p) g)))
 
 -- ---- the sign after a key
 
@@ -214,11 +214,11 @@ bare_many s p n h = rw (ne_eqb n 1 h)
 
 module _ {s : List ℕ} {p b : ℕ} (n : ℕ) (h : Byte s p b) where
   pub bare_none : is_start b ≡ false → is_bare s p n ≡ false
-  bare_none f = let e : is_start (byte_at s p) ≡ false = rw (← h.is) f in rw e (and_false (eqb n 1))
+  bare_none f = let e : is_start (byte_at s p) ≡ false = rw (← h.is) f in rw e (and-false (eqb n 1))
 
   module _ {c : ℕ} (k : c ≡ constant_at s p) where
     pub bare_constant : ¬ (c ≡ 0) → is_bare s p n ≡ false
-    bare_constant f = let e : eqb (constant_at s p) 0 ≡ false = rw (← k) (ne_eqb c 0 f) in rw (e, and_false (is_start (byte_at s p))) (and_false (eqb n 1))
+    bare_constant f = let e : eqb (constant_at s p) 0 ≡ false = rw (← k) (ne_eqb c 0 f) in rw (e, and-false (is_start (byte_at s p))) (and-false (eqb n 1))
 
     pub bare_yes : n ≡ 1 → is_start b ≡ true → c ≡ 0 → is_bare s p n ≡ true
     bare_yes one f g =

@@ -7,7 +7,7 @@ use mathlib.Core.List.{List, []}
 use native.Mathlib.Omega.{arith}
 use lib.ListN.{length}
 use lib.Dec.{eqb, eqb→eq}
-use borrow.Author.Tests.{eqb_true}
+use borrow.Author.Tests.{eqb-true}
 use Rattle.reader.specs.declared.Step.{Step}
 use Rattle.lexis.specs.Bytes.{byte_at}
 use Rattle.grammar.specs.declared.moves.Went.{Went}
@@ -28,8 +28,8 @@ pub quote_by : (s : List ℕ) (left : ℕ) (lines : Bool) (p k : ℕ) → pick_a
 quote_by s left lines p k q = go (eqb k 6) refl
   where
     go : (t : Bool) → eqb k 6 ≡ t → (t || eqb k 7) ≡ true → byte_at s p ≡ 34
-    go true e h = pick_string s left lines p (q ∙ ap some (eqb_true k 6 e))
-    go false e h = pick_template s left lines p (q ∙ ap some (eqb_true k 7 h))
+    go true e h = pick_string s left lines p (q ∙ ap some (eqb-true k 6 e))
+    go false e h = pick_template s left lines p (q ∙ ap some (eqb-true k 7 h))
 
 -- ---- the kind of a term
 

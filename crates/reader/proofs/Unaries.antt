@@ -7,7 +7,7 @@ use mathlib.Core.List.{List, [], ◌∷◌}
 use native.Mathlib.Omega.{arith}
 use lib.ListN.{length}
 use lib.Dec.{eqb, T}
-use borrow.Author.Tests.{eqb_true, eq-eqb, ne_eqb}
+use borrow.Author.Tests.{eqb-true, eq-eqb, ne_eqb}
 use Rattle.reader.specs.declared.Step.{Step}
 use Rattle.grammar.specs.declared.moves.Went.{Went}
 use Rattle.engine.specs.Base.{Outcome, ok, halt, stuck, Rec, Tree, rec_of, choose}
@@ -127,8 +127,8 @@ unary s left lines p k q h = go (eqb k 22) refl h
     g = signed s left lines p k q
 
     go : (b : Bool) → eqb k 22 ≡ b → (b || eqb k 23) ≡ true → Unary s p k
-    go true e h = let z : k ≡ 22 = eqb_true k 22 e in subst (Unary s p) (sym z) (minus s p (g.0 z))
-    go false e h = let z : k ≡ 23 = eqb_true k 23 h in subst (Unary s p) (sym z) (bang s p (g.1 z))
+    go true e h = let z : k ≡ 22 = eqb-true k 22 e in subst (Unary s p) (sym z) (minus s p (g.0 z))
+    go false e h = let z : k ≡ 23 = eqb-true k 23 h in subst (Unary s p) (sym z) (bang s p (g.1 z))
 
 -- ---- its moves
 

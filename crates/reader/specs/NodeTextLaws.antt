@@ -1,6 +1,6 @@
 -- The text of each record of a reading's table is the reading's text, and a record has text exactly where its kind is 6 or 9.
 use Rattle.std.specs.Prelude.{ℕ, zero, suc, ◌+◌, ◌-◌, ◌*◌, ◌/◌, ◌≤◌, ◌<◌, ◌≡◌, refl, List, [], ◌∷◌, ◌++◌, Bool, true, false, cond, ◌&&◌, ◌||◌, length, take, drop, get_or, eqb}
-use Rattle.std.proofs.Common.{sym, ap, ◌∙◌, inl, inr, arith, length-append, le-leb, lt-ltb, eqb_true, eq-eqb, ne_eqb}
+use Rattle.std.proofs.Common.{sym, ap, ◌∙◌, inl, inr, arith, length-append, le-leb, lt-ltb, eqb-true, eq-eqb, ne_eqb}
 use Rattle.std.proofs.lemmas.Bool.{eqb-false}
 use Rattle.lexis.specs.RunLaws.{clash}
 use Rattle.engine.specs.Base.{Tree, Trees, node, nil, cons, sizes}
@@ -88,8 +88,8 @@ worded : (k : ℕ) → is_text k ≡ true → Worded k
 worded k = go (eqb k 6) refl
   where
     go : (y : Bool) → eqb k 6 ≡ y → (y || eqb k 9) ≡ true → Worded k
-    go true e h = inl (eqb_true k 6 e)
-    go false e h = inr (eqb_true k 9 h)
+    go true e h = inl (eqb-true k 6 e)
+    go false e h = inr (eqb-true k 9 h)
 
 flag_one : (φ : ℕ) → φ ≤ 1 → eqb φ 0 ≡ false → φ ≡ 1
 flag_one φ h e = let n = eqb-false φ 0 e in go φ h n
@@ -100,9 +100,9 @@ flag_one φ h e = let n = eqb-false φ 0 e in go φ h n
 
 named : (s : List ℕ) (n : ℕ) (r : Record) → Fits (length s) n r → Named s r.start r.end (eqb r.kind 6) (eqb r.kind 9) (eqb r.flag 0) (eqb r.flag 1)
 named s n r h = record {
-  one = λ e. ne_eqb r.flag 1 (λ o. omega (arith, eqb_true r.flag 0 e, o));
+  one = λ e. ne_eqb r.flag 1 (λ o. omega (arith, eqb-true r.flag 0 e, o));
   other = λ w e. eq-eqb r.flag 1 (flag_one r.flag (h.flag (worded r.kind w)) e);
-  string = λ e. omega (arith, h.string (eqb_true r.kind 6 e), h.end);
+  string = λ e. omega (arith, h.string (eqb-true r.kind 6 e), h.end);
   piece = λ e. omega (arith, h.some, h.end);
 }
 
@@ -119,8 +119,8 @@ has_record s x n r h l = go (is_text r.kind) (eqb r.flag 0) (eqb r.flag 1) refl 
   where
     go : (t z o : Bool) → is_text r.kind ≡ t → eqb r.flag 0 ≡ z → eqb r.flag 1 ≡ o → has_as s x r.from r.length t z o ≡ t
     go false z o e f g = refl
-    go true true o e f g = le-leb _ _ (fits_source h (worded r.kind e) (eqb_true r.flag 0 f))
-    go true false true e f g = le-leb (r.from + r.length) (length x) (let w = h.words (worded r.kind e) (eqb_true r.flag 1 g) in omega arith)
+    go true true o e f g = le-leb _ _ (fits_source h (worded r.kind e) (eqb-true r.flag 0 f))
+    go true false true e f g = le-leb (r.from + r.length) (length x) (let w = h.words (worded r.kind e) (eqb-true r.flag 1 g) in omega arith)
     go true false false e f g = clash (sym ((named s n r h).other e f) ∙ g)
 
 -- ---- a tree

@@ -43,7 +43,7 @@ pub fn behind(s: &[u8], e: usize) -> Went
 }
 
 // The sign after a key: kind 0, where it ends, and 1 for `:`; or the refusal and its place.
-#[derive(Drop)]
+#[derive(Clone, Copy, Drop)]
 pub struct Sign {
     pub kind: u8,
     pub at: usize,

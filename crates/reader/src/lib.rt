@@ -1,3 +1,4 @@
+#![tactic(auto)]
 // The reader: a source is read into room of its own, and where all is well that is copied into the lent room.
 ghost use Rattle.std.specs.Prelude.{◌≡◌, ◌*◌, ◌≤◌, length};
 ghost use Rattle.grammar.specs.Answer.{answer};
@@ -18,7 +19,7 @@ mod tree;
 mod whole;
 
 // What a function of the reader answers: kind 0, the end, the number of records and of text bytes; or a refusal's kind and place, and zeros.
-#[derive(Drop)]
+#[derive(Clone, Copy, Drop)]
 pub struct Step {
     pub kind: u8,
     pub end: usize,
@@ -27,7 +28,7 @@ pub struct Step {
 }
 
 // The answer of a source: kind 0, the source's length and the counts of its reading; or a refusal's kind and place, with the counts that room is wanted for, or zeros.
-#[derive(Drop)]
+#[derive(Clone, Copy, Drop)]
 pub struct Answer {
     pub kind: u8,
     pub place: usize,

@@ -1,3 +1,4 @@
+#![tactic(auto)]
 // Reads triples of a source, a table and a text from standard input, behind their three lengths, and prints for each whether the table and the text are the
 // reading of the source: 1 or 0.
 use libc::{STDIN_FILENO, STDOUT_FILENO};

@@ -1,3 +1,4 @@
+#![tactic(auto)]
 // Reads sources from standard input, each behind its length, and prints for each the answer, its records, its text in hex and an empty line.
 use libc::STDIN_FILENO;
 

@@ -5,7 +5,7 @@ use mathlib.Core.Path.{◌≡◌, sym, ◌∙◌}
 use Prim.Native.Nat.{◌/◌, ◌<◌}
 use lib.ListN.{length}
 use mathlib.Core.Bool.{true}
-use borrow.Author.Tests.{not_true, not_false}
+use borrow.Author.Tests.{not-true, not-false}
 use Rattle.reader.specs.Node.{node_has_text}
 use Rattle.capi.specs.WhereLaws.{inside, none, in_source, in_text}
 use Rattle.capi.proofs.vealtikum_text.Statement.{statement}
@@ -15,10 +15,10 @@ has-text-requires : tie.Need-has-text-requires
 has-text-requires c κs = search rules
 
 returns : tie.Need-returns
-returns c = none _ _ _ _ (sym c.before.has-text.ensures ∙ not_true _ c.if1.true)
+returns c = none _ _ _ _ (sym c.before.has-text.ensures ∙ not-true _ c.if1.true)
 
 has : (c : tie.Else1) → let a = c.before.before.before.before.before.args in node_has_text a.source.now a.nodes.now a.text.now a.i ≡ true
-has c = sym c.before.has-text.ensures ∙ not_false _ c.if1.false
+has c = sym c.before.has-text.ensures ∙ not-false _ c.if1.false
 
 below : (c : tie.Else1) → let a = c.before.before.before.before.before.args in a.i < length a.nodes.now / 7
 below c = let a = c.before.before.before.before.before.args in inside a.source.now a.nodes.now a.text.now a.i (has c)

@@ -1,7 +1,7 @@
 use native.Mathlib.Omega.{arith}
 use Prim.Native.Nat.{◌-◌, ◌+◌, ◌*◌, ◌<◌, ◌≤◌}
 use mathlib.Core.Path.{◌≡◌, sym, ◌∙◌}
-use borrow.Author.Tests.{not_true, not_false}
+use borrow.Author.Tests.{not-true, not-false}
 use Rattle.checker.proofs.Checks.{checks_no, checks_long, checks_unformed}
 use Rattle.checker.proofs.Tabled.{sevens}
 use Rattle.lexis.proofs.Wellformed.{good_formed}
@@ -28,7 +28,7 @@ rooted-requires c κs = search rules
 
 -- src/lib.rt:132:9
 returns-3 : tie.Need-returns-3
-returns-3 c = checks_no (c.before.rooted.ensures.no (not_true _ c.if3.true) (omega (arith, c.before.before.if2.false)) _)
+returns-3 c = checks_no (c.before.rooted.ensures.no (not-true _ c.if3.true) (omega (arith, c.before.before.if2.false)) _)
 
 -- src/lib.rt:134:8
 first-bad-requires : tie.Need-first-bad-requires
@@ -40,7 +40,7 @@ returns-4 c = checks_unformed (λ e. c.if4.true (c.before.first-bad.ensures.is �
 
 -- src/lib.rt:137:5
 roomed-requires : tie.Need-roomed-requires
-roomed-requires c κs = record { short = omega (arith, c.before.before.before.before.before.if1.false); formed = good_formed _ (sym c.before.first-bad.ensures.is ∙ c.if4.false); rows = omega (arith, c.before.before.before.before.if2.false); root = c.before.before.before.rooted.ensures.yes (not_false _ c.before.before.if3.false) }
+roomed-requires c κs = record { short = omega (arith, c.before.before.before.before.before.if1.false); formed = good_formed _ (sym c.before.first-bad.ensures.is ∙ c.if4.false); rows = omega (arith, c.before.before.before.before.if2.false); root = c.before.before.before.rooted.ensures.yes (not-false _ c.before.before.if3.false) }
 
 -- src/lib.rt:121:1
 returns-5 : tie.Need-returns-5

@@ -2,7 +2,7 @@ use native.Mathlib.Omega.{arith}
 use borrow.Author.Rules.{rules}
 use Prim.Native.Nat.{◌-◌, ◌+◌, ◌*◌, ◌<◌, ◌≤◌}
 use mathlib.Core.Path.{◌≡◌, refl, sym, ap, subst, ◌∙◌}
-use borrow.Author.Tests.{not_true, not_false}
+use borrow.Author.Tests.{not-true, not-false}
 use lib.ListN.{length, length-set}
 use Rattle.checker.proofs.Checks.{checks_no}
 use Rattle.checker.specs.Check.{Walking}
@@ -58,7 +58,7 @@ same-length-8 : tie.Need-same-length-8 invariant-loop decreases-loop
 same-length-8 c = c.before.before.before.before.loop.invariant.5
 
 returns-2 : tie.Need-returns-2 invariant-loop decreases-loop
-returns-2 c = checks_no (columns_no _ _ _ _ c.before.before.before.before.loop.invariant.4 (omega (arith, c.before.before.before.if1.false)) c.before.before.before.before.loop.invariant.0.ready.rows (not_true _ c.if2.true) c.before.before.columns.ensures)
+returns-2 c = checks_no (columns_no _ _ _ _ c.before.before.before.before.loop.invariant.4 (omega (arith, c.before.before.before.if1.false)) c.before.before.before.before.loop.invariant.0.ready.rows (not-true _ c.if2.true) c.before.before.columns.ensures)
 
 node-requires : tie.Need-node-requires invariant-loop decreases-loop
 node-requires c κs = (record { short = c.before.before.before.before.before.before.before.before.loop.invariant.0.ready.short; within = omega (arith, c.before.before.before.before.before.before.before.before.loop.invariant.0.ready.rows, c.before.before.before.before.before.before.before.before.loop.invariant.4.few, c.before.before.before.before.before.before.before.if1.false); small = omega (arith, c.before.before.before.before.before.before.before.before.loop.invariant.0.ready.root.small, c.before.before.before.before.before.before.before.before.loop.invariant.4.few); marked = omega (arith, c.before.before.before.before.before.before.before.before.loop.invariant.0.marked, c.before.before.before.before.before.before.before.before.loop.invariant.1, c.before.before.before.before.before.before.before.before.loop.invariant.4.few, c.before.before.before.before.before.before.before.if1.false); deep = omega (arith, c.before.before.before.before.before.before.before.before.loop.invariant.0.deep, c.before.before.before.before.before.before.before.before.loop.invariant.2, c.before.before.before.before.before.before.before.before.loop.invariant.4.few, c.before.before.before.before.before.before.before.if1.false); keyed = omega (arith, c.before.before.before.before.before.before.before.before.loop.invariant.0.keyed, c.before.before.before.before.before.before.before.before.loop.invariant.3, c.before.before.before.before.before.before.before.before.loop.invariant.4.few, c.before.before.before.before.before.before.before.if1.false) }, record { room = omega (arith, c.before.before.before.before.before.before.before.before.loop.invariant.6, c.before.before.before.before.before.before.before.before.loop.invariant.4.few, c.before.before.before.before.before.before.before.if1.false); key = c.before.before.before.before.before.before.before.before.loop.invariant.7 })
@@ -76,10 +76,10 @@ same-length-12 : tie.Need-same-length-12 invariant-loop decreases-loop
 same-length-12 c = c.before.before.before.before.before.before.before.before.before.node.auto.1.1.1.1.1.1.1.0 ∙ c.before.before.before.before.before.before.before.before.before.before.before.before.before.before.before.before.before.before.loop.invariant.5
 
 returns-3 : tie.Need-returns-3 invariant-loop decreases-loop
-returns-3 c = checks_no (row_no _ _ _ _ c.before.before.before.before.before.before.before.before.before.before.before.before.before.before.before.before.before.before.loop.invariant.4 (omega (arith, c.before.before.before.before.before.before.before.before.before.before.before.before.before.before.before.before.before.if1.false)) c.before.before.before.before.before.before.before.before.before.before.before.before.before.before.before.before.before.before.loop.invariant.0.ready.rows (not_true _ c.if3.true) c.before.before.before.before.before.before.before.before.before.node.ensures.0)
+returns-3 c = checks_no (row_no _ _ _ _ c.before.before.before.before.before.before.before.before.before.before.before.before.before.before.before.before.before.before.loop.invariant.4 (omega (arith, c.before.before.before.before.before.before.before.before.before.before.before.before.before.before.before.before.before.if1.false)) c.before.before.before.before.before.before.before.before.before.before.before.before.before.before.before.before.before.before.loop.invariant.0.ready.rows (not-true _ c.if3.true) c.before.before.before.before.before.before.before.before.before.node.ensures.0)
 
 loop-again : tie.Need-loop-preserved invariant-loop decreases-loop
-loop-again c = (c.before.before.before.before.before.before.before.before.before.before.before.before.before.before.before.before.before.before.loop.invariant.0, c.before.before.before.before.before.before.before.before.before.node.auto.1.1.1.1.0 ∙ c.before.before.before.before.before.before.before.before.before.before.before.before.before.before.before.before.before.before.loop.invariant.1, c.before.before.before.before.before.before.before.before.before.node.auto.1.1.1.1.1.0 ∙ c.before.before.before.before.before.before.before.before.before.before.before.before.before.before.before.before.before.before.loop.invariant.2, c.before.before.before.before.before.before.before.before.before.node.auto.1.1.1.1.1.1.0 ∙ c.before.before.before.before.before.before.before.before.before.before.before.before.before.before.before.before.before.before.loop.invariant.3, row_on _ _ _ _ c.before.before.before.before.before.before.before.before.before.before.before.before.before.before.before.before.before.before.loop.invariant.4 (omega (arith, c.before.before.before.before.before.before.before.before.before.before.before.before.before.before.before.before.before.if1.false)) c.before.before.before.before.before.before.before.before.before.before.before.before.before.before.before.before.before.before.loop.invariant.0.ready.rows (not_false _ c.if3.false) c.before.before.before.before.before.before.before.before.before.node.ensures.0 (not_false _ c.before.before.before.before.before.before.before.before.before.before.before.before.before.before.if2.false) c.before.before.before.before.before.before.before.before.before.before.before.before.before.before.before.before.columns.ensures, c.before.before.before.before.before.before.before.before.before.node.auto.1.1.1.1.1.1.1.0 ∙ c.before.before.before.before.before.before.before.before.before.before.before.before.before.before.before.before.before.before.loop.invariant.5, omega (arith, c.before.before.before.before.before.before.before.before.before.node.auto.1.1.1.1.1.1.1.0, c.before.before.before.before.before.before.before.before.before.before.before.before.before.before.before.before.before.before.loop.invariant.6), c.before.before.before.before.before.before.before.before.before.node.ensures.1)
+loop-again c = (c.before.before.before.before.before.before.before.before.before.before.before.before.before.before.before.before.before.before.loop.invariant.0, c.before.before.before.before.before.before.before.before.before.node.auto.1.1.1.1.0 ∙ c.before.before.before.before.before.before.before.before.before.before.before.before.before.before.before.before.before.before.loop.invariant.1, c.before.before.before.before.before.before.before.before.before.node.auto.1.1.1.1.1.0 ∙ c.before.before.before.before.before.before.before.before.before.before.before.before.before.before.before.before.before.before.loop.invariant.2, c.before.before.before.before.before.before.before.before.before.node.auto.1.1.1.1.1.1.0 ∙ c.before.before.before.before.before.before.before.before.before.before.before.before.before.before.before.before.before.before.loop.invariant.3, row_on _ _ _ _ c.before.before.before.before.before.before.before.before.before.before.before.before.before.before.before.before.before.before.loop.invariant.4 (omega (arith, c.before.before.before.before.before.before.before.before.before.before.before.before.before.before.before.before.before.if1.false)) c.before.before.before.before.before.before.before.before.before.before.before.before.before.before.before.before.before.before.loop.invariant.0.ready.rows (not-false _ c.if3.false) c.before.before.before.before.before.before.before.before.before.node.ensures.0 (not-false _ c.before.before.before.before.before.before.before.before.before.before.before.before.before.before.if2.false) c.before.before.before.before.before.before.before.before.before.before.before.before.before.before.before.before.columns.ensures, c.before.before.before.before.before.before.before.before.before.node.auto.1.1.1.1.1.1.1.0 ∙ c.before.before.before.before.before.before.before.before.before.before.before.before.before.before.before.before.before.before.loop.invariant.5, omega (arith, c.before.before.before.before.before.before.before.before.before.node.auto.1.1.1.1.1.1.1.0, c.before.before.before.before.before.before.before.before.before.before.before.before.before.before.before.before.before.before.loop.invariant.6), c.before.before.before.before.before.before.before.before.before.node.ensures.1)
 
 pub walk-spec : {M : Type 1} → statement M
 walk-spec =

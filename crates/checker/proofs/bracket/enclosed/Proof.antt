@@ -1,6 +1,6 @@
 use mathlib.Core.Path.{refl}
 use native.Mathlib.Omega.{arith}
-use borrow.Author.Tests.{not_true, not_false}
+use borrow.Author.Tests.{not-true, not-false}
 use Rattle.checker.proofs.Rests.{rest_fin}
 use Rattle.checker.proofs.Enclosures.{seated, step_on, opener_deep, opener_no, opener_on, closer_gap_no, closer_no, closer_on}
 use borrow.Author.Rules.{rules}
@@ -23,19 +23,19 @@ same_length : tie.Need-same-length
 same_length c = c.before.before.before.inside.ensures.long
 
 returns-3 : tie.Need-returns-3
-returns-3 c = opener_on c.before.before.before.before.before.before.before.if1.false c.before.before.before.before.before.before.mark-end.ensures c.before.before.before.before.before.if2.false (c.before.before.before.inside.ensures.no (not_true _ c.if3.true) _ _)
+returns-3 c = opener_on c.before.before.before.before.before.before.before.if1.false c.before.before.before.before.before.before.mark-end.ensures c.before.before.before.before.before.if2.false (c.before.before.before.inside.ensures.no (not-true _ c.if3.true) _ _)
 
 mul_wide : tie.Need-overflow-mul-wide
-mul_wide c = omega (arith, c.before.before.before.inside.ensures.inside (not_false _ c.if3.false), c.before.before.before.before.before.before.before.before.before.before.before.before.requires.within)
+mul_wide c = omega (arith, c.before.before.before.inside.ensures.inside (not-false _ c.if3.false), c.before.before.before.before.before.before.before.before.before.before.before.before.requires.within)
 
 add_wide : tie.Need-overflow-add-wide
-add_wide c = omega (arith, c.before.before.before.inside.ensures.inside (not_false _ c.if3.false), c.before.before.before.before.before.before.before.before.before.before.before.before.requires.within)
+add_wide c = omega (arith, c.before.before.before.inside.ensures.inside (not-false _ c.if3.false), c.before.before.before.before.before.before.before.before.before.before.before.before.requires.within)
 
 mul-wide-2 : tie.Need-overflow-mul-wide-2
-mul-wide-2 c = omega (arith, c.before.before.before.inside.ensures.inside (not_false _ c.if3.false), c.before.before.before.before.before.before.before.before.before.before.before.before.requires.within)
+mul-wide-2 c = omega (arith, c.before.before.before.inside.ensures.inside (not-false _ c.if3.false), c.before.before.before.before.before.before.before.before.before.before.before.before.requires.within)
 
 shared-slice-read-wide : tie.Need-shared-slice-read-wide
-shared-slice-read-wide c = omega (arith, c.before.before.before.before.inside.ensures.inside (not_false _ c.before.if3.false), c.before.before.before.before.before.before.before.before.before.before.before.before.before.requires.within)
+shared-slice-read-wide c = omega (arith, c.before.before.before.before.inside.ensures.inside (not-false _ c.before.if3.false), c.before.before.before.before.before.before.before.before.before.before.before.before.before.requires.within)
 
 wide-requires : tie.Need-wide-requires
 wide-requires c κs = search rules
@@ -47,7 +47,7 @@ same-length-2 : tie.Need-same-length-2
 same-length-2 c = c.before.before.before.before.before.before.before.before.inside.ensures.long
 
 returns-4 : tie.Need-returns-4
-returns-4 c = opener_on c.before.before.before.before.before.before.before.before.before.before.before.before.if1.false c.before.before.before.before.before.before.before.before.before.before.before.mark-end.ensures c.before.before.before.before.before.before.before.before.before.before.if2.false (step_on c.before.before.before.before.before.before.before.before.inside.ensures (not_false _ c.before.before.before.before.before.if3.false) c.before.before.before.before.before.before.before.before.before.before.before.before.before.before.before.before.before.requires refl c.before.before.before.wide.ensures.0 (closer_gap_no c.before.before.space.ensures c.if4.true))
+returns-4 c = opener_on c.before.before.before.before.before.before.before.before.before.before.before.before.if1.false c.before.before.before.before.before.before.before.before.before.before.before.mark-end.ensures c.before.before.before.before.before.before.before.before.before.before.if2.false (step_on c.before.before.before.before.before.before.before.before.inside.ensures (not-false _ c.before.before.before.before.before.if3.false) c.before.before.before.before.before.before.before.before.before.before.before.before.before.before.before.before.before.requires refl c.before.before.before.wide.ensures.0 (closer_gap_no c.before.before.space.ensures c.if4.true))
 
 mark-end-requires-2 : tie.Need-mark-end-requires-2
 mark-end-requires-2 c κs = search rules
@@ -56,13 +56,13 @@ same-length-3 : tie.Need-same-length-3
 same-length-3 c = c.before.before.before.before.before.before.before.before.before.before.before.inside.ensures.long
 
 returns-5 : tie.Need-returns-5
-returns-5 c = opener_on c.before.before.before.before.before.before.before.before.before.before.before.before.before.before.before.if1.false c.before.before.before.before.before.before.before.before.before.before.before.before.before.before.mark-end.ensures c.before.before.before.before.before.before.before.before.before.before.before.before.before.if2.false (step_on c.before.before.before.before.before.before.before.before.before.before.before.inside.ensures (not_false _ c.before.before.before.before.before.before.before.before.if3.false) c.before.before.before.before.before.before.before.before.before.before.before.before.before.before.before.before.before.before.before.before.requires refl c.before.before.before.before.before.before.wide.ensures.0 (closer_no c.before.before.before.before.before.space.ensures c.before.before.before.if4.false c.before.before.mark-end2.ensures c.if5.true))
+returns-5 c = opener_on c.before.before.before.before.before.before.before.before.before.before.before.before.before.before.before.if1.false c.before.before.before.before.before.before.before.before.before.before.before.before.before.before.mark-end.ensures c.before.before.before.before.before.before.before.before.before.before.before.before.before.if2.false (step_on c.before.before.before.before.before.before.before.before.before.before.before.inside.ensures (not-false _ c.before.before.before.before.before.before.before.before.if3.false) c.before.before.before.before.before.before.before.before.before.before.before.before.before.before.before.before.before.before.before.before.requires refl c.before.before.before.before.before.before.wide.ensures.0 (closer_no c.before.before.before.before.before.space.ensures c.before.before.before.if4.false c.before.before.mark-end2.ensures c.if5.true))
 
 mul-wide-3 : tie.Need-overflow-mul-wide-3
-mul-wide-3 c = omega (arith, c.before.before.before.before.before.before.before.before.before.before.before.inside.ensures.inside (not_false _ c.before.before.before.before.before.before.before.before.if3.false), c.before.before.before.before.before.before.before.before.before.before.before.before.before.before.before.before.before.before.before.before.requires.within)
+mul-wide-3 c = omega (arith, c.before.before.before.before.before.before.before.before.before.before.before.inside.ensures.inside (not-false _ c.before.before.before.before.before.before.before.before.if3.false), c.before.before.before.before.before.before.before.before.before.before.before.before.before.before.before.before.before.before.before.before.requires.within)
 
 shared-slice-read-wide-2 : tie.Need-shared-slice-read-wide-2
-shared-slice-read-wide-2 c = omega (arith, c.before.before.before.before.before.before.before.before.before.before.before.before.inside.ensures.inside (not_false _ c.before.before.before.before.before.before.before.before.before.if3.false), c.before.before.before.before.before.before.before.before.before.before.before.before.before.before.before.before.before.before.before.before.before.requires.marked)
+shared-slice-read-wide-2 c = omega (arith, c.before.before.before.before.before.before.before.before.before.before.before.before.inside.ensures.inside (not-false _ c.before.before.before.before.before.before.before.before.before.if3.false), c.before.before.before.before.before.before.before.before.before.before.before.before.before.before.before.before.before.before.before.before.before.requires.marked)
 
 wide-requires-2 : tie.Need-wide-requires-2
 wide-requires-2 c κs = search rules
@@ -74,7 +74,7 @@ same-length-4 : tie.Need-same-length-4
 same-length-4 c = c.before.before.before.before.before.before.before.before.before.before.before.before.before.before.inside.ensures.long
 
 returns-6 : tie.Need-returns-6
-returns-6 c = opener_on c.before.before.before.before.before.before.before.before.before.before.before.before.before.before.before.before.before.before.if1.false c.before.before.before.before.before.before.before.before.before.before.before.before.before.before.before.before.before.mark-end.ensures c.before.before.before.before.before.before.before.before.before.before.before.before.before.before.before.before.if2.false (step_on c.before.before.before.before.before.before.before.before.before.before.before.before.before.before.inside.ensures (not_false _ c.before.before.before.before.before.before.before.before.before.before.before.if3.false) c.before.before.before.before.before.before.before.before.before.before.before.before.before.before.before.before.before.before.before.before.before.before.before.requires c.before.wide2.ensures.0 c.before.before.before.before.before.before.before.before.before.wide.ensures.0 (closer_on c.before.before.before.before.before.before.before.before.space.ensures c.before.before.before.before.before.before.if4.false c.before.before.before.before.before.mark-end2.ensures c.before.before.before.if5.false (rest_fin _ _ _ _ _ _ c.ends.ensures)))
+returns-6 c = opener_on c.before.before.before.before.before.before.before.before.before.before.before.before.before.before.before.before.before.before.if1.false c.before.before.before.before.before.before.before.before.before.before.before.before.before.before.before.before.before.mark-end.ensures c.before.before.before.before.before.before.before.before.before.before.before.before.before.before.before.before.if2.false (step_on c.before.before.before.before.before.before.before.before.before.before.before.before.before.before.inside.ensures (not-false _ c.before.before.before.before.before.before.before.before.before.before.before.if3.false) c.before.before.before.before.before.before.before.before.before.before.before.before.before.before.before.before.before.before.before.before.before.before.before.requires c.before.wide2.ensures.0 c.before.before.before.before.before.before.before.before.before.wide.ensures.0 (closer_on c.before.before.before.before.before.before.before.before.space.ensures c.before.before.before.before.before.before.if4.false c.before.before.before.before.before.mark-end2.ensures c.before.before.before.if5.false (rest_fin _ _ _ _ _ _ c.ends.ensures)))
 
 pub enclosed-spec : {M : Type 1} → statement M
 enclosed-spec =

@@ -1,6 +1,6 @@
 use mathlib.Core.Path.{refl}
 use native.Mathlib.Omega.{arith}
-use borrow.Author.Tests.{not_true, not_false}
+use borrow.Author.Tests.{not-true, not-false}
 use Rattle.checker.proofs.Enclosures.{seated, step_on, opener_deep, opener_no, opener_on, tilde_on}
 use borrow.Author.Rules.{rules}
 use Rattle.checker.proofs.bracket.interpolation.Statement.{statement}
@@ -25,28 +25,28 @@ same_length : tie.Need-same-length
 same_length c = c.before.before.before.inside.ensures.long
 
 returns-3 : tie.Need-returns-3
-returns-3 c = opener_on c.before.before.before.before.before.before.before.before.if1.false c.before.before.before.before.before.before.before.pair-end.ensures c.before.before.before.before.before.before.if2.false (tilde_on c.before.before.before.before.before.mark-end.ensures (c.before.before.before.inside.ensures.no (not_true _ c.if3.true) _ _))
+returns-3 c = opener_on c.before.before.before.before.before.before.before.before.if1.false c.before.before.before.before.before.before.before.pair-end.ensures c.before.before.before.before.before.before.if2.false (tilde_on c.before.before.before.before.before.mark-end.ensures (c.before.before.before.inside.ensures.no (not-true _ c.if3.true) _ _))
 
 mul_wide : tie.Need-overflow-mul-wide
-mul_wide c = omega (arith, c.before.before.before.inside.ensures.inside (not_false _ c.if3.false), c.before.before.before.before.before.before.before.before.before.before.before.before.before.requires.within)
+mul_wide c = omega (arith, c.before.before.before.inside.ensures.inside (not-false _ c.if3.false), c.before.before.before.before.before.before.before.before.before.before.before.before.before.requires.within)
 
 shared-slice-read-wide : tie.Need-shared-slice-read-wide
-shared-slice-read-wide c = omega (arith, c.before.before.before.before.inside.ensures.inside (not_false _ c.before.if3.false), c.before.before.before.before.before.before.before.before.before.before.before.before.before.before.requires.marked)
+shared-slice-read-wide c = omega (arith, c.before.before.before.before.inside.ensures.inside (not-false _ c.before.if3.false), c.before.before.before.before.before.before.before.before.before.before.before.before.before.before.requires.marked)
 
 wide-requires : tie.Need-wide-requires
 wide-requires c κs = search rules
 
 mul-wide-2 : tie.Need-overflow-mul-wide-2
-mul-wide-2 c = omega (arith, c.before.before.before.before.before.inside.ensures.inside (not_false _ c.before.before.if3.false), c.before.before.before.before.before.before.before.before.before.before.before.before.before.before.before.requires.within)
+mul-wide-2 c = omega (arith, c.before.before.before.before.before.inside.ensures.inside (not-false _ c.before.before.if3.false), c.before.before.before.before.before.before.before.before.before.before.before.before.before.before.before.requires.within)
 
 add_wide : tie.Need-overflow-add-wide
-add_wide c = omega (arith, c.before.before.before.before.before.inside.ensures.inside (not_false _ c.before.before.if3.false), c.before.before.before.before.before.before.before.before.before.before.before.before.before.before.before.requires.within)
+add_wide c = omega (arith, c.before.before.before.before.before.inside.ensures.inside (not-false _ c.before.before.if3.false), c.before.before.before.before.before.before.before.before.before.before.before.before.before.before.before.requires.within)
 
 mul-wide-3 : tie.Need-overflow-mul-wide-3
-mul-wide-3 c = omega (arith, c.before.before.before.before.before.inside.ensures.inside (not_false _ c.before.before.if3.false), c.before.before.before.before.before.before.before.before.before.before.before.before.before.before.before.requires.within)
+mul-wide-3 c = omega (arith, c.before.before.before.before.before.inside.ensures.inside (not-false _ c.before.before.if3.false), c.before.before.before.before.before.before.before.before.before.before.before.before.before.before.before.requires.within)
 
 shared-slice-read-wide-2 : tie.Need-shared-slice-read-wide-2
-shared-slice-read-wide-2 c = omega (arith, c.before.before.before.before.before.before.inside.ensures.inside (not_false _ c.before.before.before.if3.false), c.before.before.before.before.before.before.before.before.before.before.before.before.before.before.before.before.requires.within)
+shared-slice-read-wide-2 c = omega (arith, c.before.before.before.before.before.before.inside.ensures.inside (not-false _ c.before.before.before.if3.false), c.before.before.before.before.before.before.before.before.before.before.before.before.before.before.before.before.requires.within)
 
 wide-requires-2 : tie.Need-wide-requires-2
 wide-requires-2 c κs = search rules
@@ -58,7 +58,7 @@ same-length-2 : tie.Need-same-length-2
 same-length-2 c = c.before.before.before.before.before.before.before.before.inside.ensures.long
 
 returns-4 : tie.Need-returns-4
-returns-4 c = opener_on c.before.before.before.before.before.before.before.before.before.before.before.before.before.if1.false c.before.before.before.before.before.before.before.before.before.before.before.before.pair-end.ensures c.before.before.before.before.before.before.before.before.before.before.before.if2.false (tilde_on c.before.before.before.before.before.before.before.before.before.before.mark-end.ensures (step_on c.before.before.before.before.before.before.before.before.inside.ensures (not_false _ c.before.before.before.before.before.if3.false) c.before.before.before.before.before.before.before.before.before.before.before.before.before.before.before.before.before.before.requires c.before.before.before.wide.ensures.0 c.before.wide2.ensures.0 (c.stripped.ensures.rest _ _ _)))
+returns-4 c = opener_on c.before.before.before.before.before.before.before.before.before.before.before.before.before.if1.false c.before.before.before.before.before.before.before.before.before.before.before.before.pair-end.ensures c.before.before.before.before.before.before.before.before.before.before.before.if2.false (tilde_on c.before.before.before.before.before.before.before.before.before.before.mark-end.ensures (step_on c.before.before.before.before.before.before.before.before.inside.ensures (not-false _ c.before.before.before.before.before.if3.false) c.before.before.before.before.before.before.before.before.before.before.before.before.before.before.before.before.before.before.requires c.before.before.before.wide.ensures.0 c.before.wide2.ensures.0 (c.stripped.ensures.rest _ _ _)))
 
 pub interpolation-spec : {M : Type 1} → statement M
 interpolation-spec =

@@ -1,7 +1,7 @@
 use native.Mathlib.Omega.{arith}
 use Prim.Native.Nat.{◌-◌, ◌+◌, ◌*◌, ◌<◌, ◌≤◌}
 use mathlib.Core.Path.{◌≡◌, refl, sym, ap, subst, ◌∙◌}
-use borrow.Author.Tests.{not_true, not_false}
+use borrow.Author.Tests.{not-true, not-false}
 use Rattle.checker.proofs.Lays.{chain_le}
 use Rattle.checker.proofs.Directs.{operator_gap_no, operator_no, operator_by}
 use borrow.Author.Rules.{rules}
@@ -53,15 +53,15 @@ same_length c = search rules
 
 -- src/direct.rt:88:9
 returns-2 : tie.Need-returns-2
-returns-2 c = operator_no _ _ _ _ _ _ c.before.before.before.before.before.before.before.before.before.before.before.before.before.before.args.own c.before.before.before.before.before.before.before.before.before.before.before.before.before.before.requires.0 c.before.before.before.before.before.before.before.before.before.before.before.before.before.before.requires.2 c.before.before.before.before.before.before.before.before.before.before.before.before.before.before.requires.1 c.before.before.before.before.before.before.before.before.before.space.ensures c.before.before.before.before.before.before.before.if1.false c.before.before.before.before.before.tight.ensures c.before.before.before.kid.ensures (not_true _ c.if2.true)
+returns-2 c = operator_no _ _ _ _ _ _ c.before.before.before.before.before.before.before.before.before.before.before.before.before.before.args.own c.before.before.before.before.before.before.before.before.before.before.before.before.before.before.requires.0 c.before.before.before.before.before.before.before.before.before.before.before.before.before.before.requires.2 c.before.before.before.before.before.before.before.before.before.before.before.before.before.before.requires.1 c.before.before.before.before.before.before.before.before.before.space.ensures c.before.before.before.before.before.before.before.if1.false c.before.before.before.before.before.tight.ensures c.before.before.before.kid.ensures (not-true _ c.if2.true)
 
 -- src/direct.rt:90:25
 mul_wide : tie.Need-overflow-mul-wide
-mul_wide c = let l = c.before.before.before.kid.ensures.inside (not_false _ c.if2.false) in omega (arith, c.before.before.before.before.before.before.before.before.before.before.before.before.before.before.requires.0.within, c.before.before.before.before.before.before.before.before.before.before.before.before.before.before.requires.0.marked, l)
+mul_wide c = let l = c.before.before.before.kid.ensures.inside (not-false _ c.if2.false) in omega (arith, c.before.before.before.before.before.before.before.before.before.before.before.before.before.before.requires.0.within, c.before.before.before.before.before.before.before.before.before.before.before.before.before.before.requires.0.marked, l)
 
 -- src/direct.rt:90:25
 shared-slice-read-wide : tie.Need-shared-slice-read-wide
-shared-slice-read-wide c = let l = c.before.before.before.before.kid.ensures.inside (not_false _ c.before.if2.false) in omega (arith, c.before.before.before.before.before.before.before.before.before.before.before.before.before.before.before.requires.0.within, c.before.before.before.before.before.before.before.before.before.before.before.before.before.before.before.requires.0.marked, l)
+shared-slice-read-wide c = let l = c.before.before.before.before.kid.ensures.inside (not-false _ c.before.if2.false) in omega (arith, c.before.before.before.before.before.before.before.before.before.before.before.before.before.before.before.requires.0.within, c.before.before.before.before.before.before.before.before.before.before.before.before.before.before.before.requires.0.marked, l)
 
 -- src/direct.rt:90:20
 wide-requires : tie.Need-wide-requires
@@ -69,19 +69,19 @@ wide-requires c κs = search rules
 
 -- src/direct.rt:90:47
 mul-wide-2 : tie.Need-overflow-mul-wide-2
-mul-wide-2 c = let l = c.before.before.before.before.before.kid.ensures.inside (not_false _ c.before.before.if2.false) in omega (arith, c.before.before.before.before.before.before.before.before.before.before.before.before.before.before.before.before.requires.0.within, c.before.before.before.before.before.before.before.before.before.before.before.before.before.before.before.before.requires.0.marked, l)
+mul-wide-2 c = let l = c.before.before.before.before.before.kid.ensures.inside (not-false _ c.before.before.if2.false) in omega (arith, c.before.before.before.before.before.before.before.before.before.before.before.before.before.before.before.before.requires.0.within, c.before.before.before.before.before.before.before.before.before.before.before.before.before.before.before.before.requires.0.marked, l)
 
 -- src/direct.rt:90:47
 add_wide : tie.Need-overflow-add-wide
-add_wide c = let l = c.before.before.before.before.before.kid.ensures.inside (not_false _ c.before.before.if2.false) in omega (arith, c.before.before.before.before.before.before.before.before.before.before.before.before.before.before.before.before.requires.0.within, c.before.before.before.before.before.before.before.before.before.before.before.before.before.before.before.before.requires.0.marked, l)
+add_wide c = let l = c.before.before.before.before.before.kid.ensures.inside (not-false _ c.before.before.if2.false) in omega (arith, c.before.before.before.before.before.before.before.before.before.before.before.before.before.before.before.before.requires.0.within, c.before.before.before.before.before.before.before.before.before.before.before.before.before.before.before.before.requires.0.marked, l)
 
 -- src/direct.rt:90:41
 mul-wide-3 : tie.Need-overflow-mul-wide-3
-mul-wide-3 c = let l = c.before.before.before.before.before.kid.ensures.inside (not_false _ c.before.before.if2.false) in omega (arith, c.before.before.before.before.before.before.before.before.before.before.before.before.before.before.before.before.requires.0.within, c.before.before.before.before.before.before.before.before.before.before.before.before.before.before.before.before.requires.0.marked, l)
+mul-wide-3 c = let l = c.before.before.before.before.before.kid.ensures.inside (not-false _ c.before.before.if2.false) in omega (arith, c.before.before.before.before.before.before.before.before.before.before.before.before.before.before.before.before.requires.0.within, c.before.before.before.before.before.before.before.before.before.before.before.before.before.before.before.before.requires.0.marked, l)
 
 -- src/direct.rt:90:41
 shared-slice-read-wide-2 : tie.Need-shared-slice-read-wide-2
-shared-slice-read-wide-2 c = let l = c.before.before.before.before.before.before.kid.ensures.inside (not_false _ c.before.before.before.if2.false) in omega (arith, c.before.before.before.before.before.before.before.before.before.before.before.before.before.before.before.before.before.requires.0.within, c.before.before.before.before.before.before.before.before.before.before.before.before.before.before.before.before.before.requires.0.marked, l)
+shared-slice-read-wide-2 c = let l = c.before.before.before.before.before.before.kid.ensures.inside (not-false _ c.before.before.before.if2.false) in omega (arith, c.before.before.before.before.before.before.before.before.before.before.before.before.before.before.before.before.before.requires.0.within, c.before.before.before.before.before.before.before.before.before.before.before.before.before.before.before.before.before.requires.0.marked, l)
 
 -- src/direct.rt:90:36
 wide-requires-2 : tie.Need-wide-requires-2
@@ -97,7 +97,7 @@ same-length-2 c = search rules
 
 -- src/direct.rt:68:1
 returns-3 : tie.Need-returns-3
-returns-3 c = operator_by _ _ _ _ _ _ c.before.before.before.before.before.before.before.before.before.before.before.before.before.before.before.before.before.before.before.args.own c.before.before.before.before.before.before.before.before.before.before.before.before.before.before.before.before.before.before.before.requires.0 c.before.before.before.before.before.before.before.before.before.before.before.before.before.before.before.before.before.before.before.requires.2 c.before.before.before.before.before.before.before.before.before.before.before.before.before.before.before.before.before.before.before.requires.1 c.before.before.before.before.before.before.before.before.before.before.before.before.before.before.space.ensures c.before.before.before.before.before.before.before.before.before.before.before.before.if1.false c.before.before.before.before.before.before.before.before.before.before.tight.ensures c.before.before.before.before.before.before.before.before.kid.ensures (not_false _ c.before.before.before.before.before.if2.false) c.before.before.before.wide.ensures.0 c.before.wide2.ensures.0 c.ends.ensures
+returns-3 c = operator_by _ _ _ _ _ _ c.before.before.before.before.before.before.before.before.before.before.before.before.before.before.before.before.before.before.before.args.own c.before.before.before.before.before.before.before.before.before.before.before.before.before.before.before.before.before.before.before.requires.0 c.before.before.before.before.before.before.before.before.before.before.before.before.before.before.before.before.before.before.before.requires.2 c.before.before.before.before.before.before.before.before.before.before.before.before.before.before.before.before.before.before.before.requires.1 c.before.before.before.before.before.before.before.before.before.before.before.before.before.before.space.ensures c.before.before.before.before.before.before.before.before.before.before.before.before.if1.false c.before.before.before.before.before.before.before.before.before.before.tight.ensures c.before.before.before.before.before.before.before.before.kid.ensures (not-false _ c.before.before.before.before.before.if2.false) c.before.before.before.wide.ensures.0 c.before.wide2.ensures.0 c.ends.ensures
 
 pub operator-spec : {M : Type 1} → statement M
 operator-spec =

@@ -1,6 +1,6 @@
 use Prim.Native.Nat.{◌-◌, ◌+◌, ◌*◌, ◌<◌}
 use mathlib.Core.Path.{◌≡◌, refl, sym, ap, subst, ◌∙◌}
-use borrow.Author.Tests.{not_true, not_false}
+use borrow.Author.Tests.{not-true, not-false}
 use Rattle.checker.proofs.Passes.{ends_no, ends_by_lem}
 use borrow.Author.Rules.{rules}
 use Rattle.checker.proofs.lay.ends.Statement.{statement}

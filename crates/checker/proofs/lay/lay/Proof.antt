@@ -1,7 +1,7 @@
 use native.Mathlib.Omega.{arith}
 use Prim.Native.Nat.{◌-◌, ◌+◌, ◌*◌, ◌<◌, ◌≤◌}
 use mathlib.Core.Path.{◌≡◌, refl, sym, ap, subst, ◌∙◌}
-use borrow.Author.Tests.{not_true, not_false}
+use borrow.Author.Tests.{not-true, not-false}
 use borrow.Author.Rules.{rules}
 use mathlib.Core.List.{[]}
 use Rattle.checker.specs.Rows.{row_at}
@@ -51,28 +51,28 @@ same-length-2 : tie.Need-same-length-2 invariant-loop decreases-loop
 same-length-2 c = omega (arith, c.before.before.before.child-at.ensures.long, c.before.before.before.before.before.before.before.before.before.before.loop.invariant.0.long)
 
 returns-2 : tie.Need-returns-2 invariant-loop decreases-loop
-returns-2 c = plain_kid_no _ _ _ _ _ c.before.before.before.before.before.before.before.before.before.before.loop.invariant.0 c.before.before.before.before.before.before.before.before.before.instr.ensures c.before.before.before.before.before.before.before.before.before.before.loop.invariant.3 (omega (arith, c.before.before.before.before.before.before.before.before.before.before.loop.invariant.1.deep, c.before.before.before.before.before.before.before.before.before.before.loop.invariant.0.long)) c.before.before.before.before.before.if2.true c.before.before.before.child-at.ensures (not_true _ c.if3.true)
+returns-2 c = plain_kid_no _ _ _ _ _ c.before.before.before.before.before.before.before.before.before.before.loop.invariant.0 c.before.before.before.before.before.before.before.before.before.instr.ensures c.before.before.before.before.before.before.before.before.before.before.loop.invariant.3 (omega (arith, c.before.before.before.before.before.before.before.before.before.before.loop.invariant.1.deep, c.before.before.before.before.before.before.before.before.before.before.loop.invariant.0.long)) c.before.before.before.before.before.if2.true c.before.before.before.child-at.ensures (not-true _ c.if3.true)
 
 mul_wide : tie.Need-overflow-mul-wide invariant-loop decreases-loop
-mul_wide c = let l = c.before.before.before.child-at.ensures.inside (not_false _ c.if3.false) in omega (arith, c.before.before.before.before.before.before.before.before.before.before.loop.invariant.1.within, c.before.before.before.before.before.before.before.before.before.before.loop.invariant.1.marked, c.before.before.before.before.before.before.before.before.before.before.loop.invariant.4, l)
+mul_wide c = let l = c.before.before.before.child-at.ensures.inside (not-false _ c.if3.false) in omega (arith, c.before.before.before.before.before.before.before.before.before.before.loop.invariant.1.within, c.before.before.before.before.before.before.before.before.before.before.loop.invariant.1.marked, c.before.before.before.before.before.before.before.before.before.before.loop.invariant.4, l)
 
 add_wide : tie.Need-overflow-add-wide invariant-loop decreases-loop
-add_wide c = let l = c.before.before.before.child-at.ensures.inside (not_false _ c.if3.false) in omega (arith, c.before.before.before.before.before.before.before.before.before.before.loop.invariant.1.within, c.before.before.before.before.before.before.before.before.before.before.loop.invariant.1.marked, c.before.before.before.before.before.before.before.before.before.before.loop.invariant.4, l)
+add_wide c = let l = c.before.before.before.child-at.ensures.inside (not-false _ c.if3.false) in omega (arith, c.before.before.before.before.before.before.before.before.before.before.loop.invariant.1.within, c.before.before.before.before.before.before.before.before.before.before.loop.invariant.1.marked, c.before.before.before.before.before.before.before.before.before.before.loop.invariant.4, l)
 
 mul-wide-2 : tie.Need-overflow-mul-wide-2 invariant-loop decreases-loop
-mul-wide-2 c = let l = c.before.before.before.child-at.ensures.inside (not_false _ c.if3.false) in omega (arith, c.before.before.before.before.before.before.before.before.before.before.loop.invariant.1.within, c.before.before.before.before.before.before.before.before.before.before.loop.invariant.1.marked, c.before.before.before.before.before.before.before.before.before.before.loop.invariant.4, l)
+mul-wide-2 c = let l = c.before.before.before.child-at.ensures.inside (not-false _ c.if3.false) in omega (arith, c.before.before.before.before.before.before.before.before.before.before.loop.invariant.1.within, c.before.before.before.before.before.before.before.before.before.before.loop.invariant.1.marked, c.before.before.before.before.before.before.before.before.before.before.loop.invariant.4, l)
 
 shared-slice-read-wide : tie.Need-shared-slice-read-wide invariant-loop decreases-loop
-shared-slice-read-wide c = let l = c.before.before.before.before.child-at.ensures.inside (not_false _ c.before.if3.false) in omega (arith, c.before.before.before.before.before.before.before.before.before.before.before.loop.invariant.1.within, c.before.before.before.before.before.before.before.before.before.before.before.loop.invariant.1.marked, c.before.before.before.before.before.before.before.before.before.before.before.loop.invariant.4, l)
+shared-slice-read-wide c = let l = c.before.before.before.before.child-at.ensures.inside (not-false _ c.before.if3.false) in omega (arith, c.before.before.before.before.before.before.before.before.before.before.before.loop.invariant.1.within, c.before.before.before.before.before.before.before.before.before.before.before.loop.invariant.1.marked, c.before.before.before.before.before.before.before.before.before.before.before.loop.invariant.4, l)
 
 wide-requires : tie.Need-wide-requires invariant-loop decreases-loop
 wide-requires c κs = search rules
 
 mul-wide-3 : tie.Need-overflow-mul-wide-3 invariant-loop decreases-loop
-mul-wide-3 c = let l = c.before.before.before.before.before.child-at.ensures.inside (not_false _ c.before.before.if3.false) in omega (arith, c.before.before.before.before.before.before.before.before.before.before.before.before.loop.invariant.1.within, c.before.before.before.before.before.before.before.before.before.before.before.before.loop.invariant.1.marked, c.before.before.before.before.before.before.before.before.before.before.before.before.loop.invariant.4, l)
+mul-wide-3 c = let l = c.before.before.before.before.before.child-at.ensures.inside (not-false _ c.before.before.if3.false) in omega (arith, c.before.before.before.before.before.before.before.before.before.before.before.before.loop.invariant.1.within, c.before.before.before.before.before.before.before.before.before.before.before.before.loop.invariant.1.marked, c.before.before.before.before.before.before.before.before.before.before.before.before.loop.invariant.4, l)
 
 shared-slice-read-wide-2 : tie.Need-shared-slice-read-wide-2 invariant-loop decreases-loop
-shared-slice-read-wide-2 c = let l = c.before.before.before.before.before.before.child-at.ensures.inside (not_false _ c.before.before.before.if3.false) in omega (arith, c.before.before.before.before.before.before.before.before.before.before.before.before.before.loop.invariant.1.within, c.before.before.before.before.before.before.before.before.before.before.before.before.before.loop.invariant.1.marked, c.before.before.before.before.before.before.before.before.before.before.before.before.before.loop.invariant.4, l)
+shared-slice-read-wide-2 c = let l = c.before.before.before.before.before.before.child-at.ensures.inside (not-false _ c.before.before.before.if3.false) in omega (arith, c.before.before.before.before.before.before.before.before.before.before.before.before.before.loop.invariant.1.within, c.before.before.before.before.before.before.before.before.before.before.before.before.before.loop.invariant.1.marked, c.before.before.before.before.before.before.before.before.before.before.before.before.before.loop.invariant.4, l)
 
 wide-requires-2 : tie.Need-wide-requires-2 invariant-loop decreases-loop
 wide-requires-2 c κs = search rules
@@ -81,10 +81,10 @@ add-pc : tie.Need-overflow-add-pc invariant-loop decreases-loop
 add-pc c = omega (arith, turn_within _ _ _ _ _ c.before.before.before.before.before.before.before.before.before.before.before.before.before.before.loop.invariant.0)
 
 loop-less : tie.Need-loop-smaller invariant-loop decreases-loop
-loop-less c = let u = plain_up _ _ _ _ _ c.before.before.before.before.before.before.before.before.before.before.before.before.before.before.loop.invariant.0 c.before.before.before.before.before.before.before.before.before.before.before.before.before.instr.ensures (c.before.before.before.before.before.before.before.child-at.ensures.inside (not_false _ c.before.before.before.before.if3.false)) c.wide2.ensures.0 in omega (arith, u.0, u.1)
+loop-less c = let u = plain_up _ _ _ _ _ c.before.before.before.before.before.before.before.before.before.before.before.before.before.before.loop.invariant.0 c.before.before.before.before.before.before.before.before.before.before.before.before.before.instr.ensures (c.before.before.before.before.before.before.before.child-at.ensures.inside (not-false _ c.before.before.before.before.if3.false)) c.wide2.ensures.0 in omega (arith, u.0, u.1)
 
 loop-again : tie.Need-loop-preserved invariant-loop decreases-loop
-loop-again c = (plain_kid _ _ _ _ _ c.before.before.before.before.before.before.before.before.before.before.before.before.before.before.loop.invariant.0 c.before.before.before.before.before.before.before.before.before.before.before.before.before.instr.ensures c.before.before.before.before.before.before.before.before.before.before.before.before.before.before.loop.invariant.3 (omega (arith, c.before.before.before.before.before.before.before.before.before.before.before.before.before.before.loop.invariant.1.deep, c.before.before.before.before.before.before.before.before.before.before.before.before.before.before.loop.invariant.0.long)) c.before.before.before.before.before.before.before.before.before.if2.true c.before.before.before.before.before.before.before.child-at.ensures (not_false _ c.before.before.before.before.if3.false) c.before.before.wide.ensures.0 c.wide2.ensures.0, c.before.before.before.before.before.before.before.before.before.before.before.before.before.before.loop.invariant.1, c.before.before.before.before.before.before.before.before.before.before.before.before.before.before.loop.invariant.2, c.before.before.before.before.before.before.before.before.before.before.before.before.before.before.loop.invariant.3, c.before.before.before.before.before.before.before.before.before.before.before.before.before.before.loop.invariant.4)
+loop-again c = (plain_kid _ _ _ _ _ c.before.before.before.before.before.before.before.before.before.before.before.before.before.before.loop.invariant.0 c.before.before.before.before.before.before.before.before.before.before.before.before.before.instr.ensures c.before.before.before.before.before.before.before.before.before.before.before.before.before.before.loop.invariant.3 (omega (arith, c.before.before.before.before.before.before.before.before.before.before.before.before.before.before.loop.invariant.1.deep, c.before.before.before.before.before.before.before.before.before.before.before.before.before.before.loop.invariant.0.long)) c.before.before.before.before.before.before.before.before.before.if2.true c.before.before.before.before.before.before.before.child-at.ensures (not-false _ c.before.before.before.before.if3.false) c.before.before.wide.ensures.0 c.wide2.ensures.0, c.before.before.before.before.before.before.before.before.before.before.before.before.before.before.loop.invariant.1, c.before.before.before.before.before.before.before.before.before.before.before.before.before.before.loop.invariant.2, c.before.before.before.before.before.before.before.before.before.before.before.before.before.before.loop.invariant.3, c.before.before.before.before.before.before.before.before.before.before.before.before.before.before.loop.invariant.4)
 
 go-requires : tie.Need-go-requires invariant-loop decreases-loop
 go-requires c κs = search rules
@@ -108,37 +108,37 @@ same-length-4 : tie.Need-same-length-4 invariant-loop decreases-loop
 same-length-4 c = omega (arith, c.before.before.before.child-at2.ensures.long, c.before.before.before.before.before.before.before.before.before.before.before.before.before.before.before.loop.invariant.0.long)
 
 returns-4 : tie.Need-returns-4 invariant-loop decreases-loop
-returns-4 c = plain_rep_no _ _ _ _ _ c.before.before.before.before.before.before.before.before.before.before.before.before.before.before.before.loop.invariant.0 c.before.before.before.before.before.before.before.before.before.before.before.before.before.before.instr.ensures c.before.before.before.before.before.before.before.before.before.before.before.before.before.before.before.loop.invariant.3 (omega (arith, c.before.before.before.before.before.before.before.before.before.before.before.before.before.before.before.loop.invariant.1.deep, c.before.before.before.before.before.before.before.before.before.before.before.before.before.before.before.loop.invariant.0.long)) c.before.before.before.before.before.if6.true c.before.before.before.before.before.before.before.before.before.go.ensures c.before.before.before.before.before.before.before.if4.false c.before.before.before.child-at2.ensures (not_true _ c.if7.true)
+returns-4 c = plain_rep_no _ _ _ _ _ c.before.before.before.before.before.before.before.before.before.before.before.before.before.before.before.loop.invariant.0 c.before.before.before.before.before.before.before.before.before.before.before.before.before.before.instr.ensures c.before.before.before.before.before.before.before.before.before.before.before.before.before.before.before.loop.invariant.3 (omega (arith, c.before.before.before.before.before.before.before.before.before.before.before.before.before.before.before.loop.invariant.1.deep, c.before.before.before.before.before.before.before.before.before.before.before.before.before.before.before.loop.invariant.0.long)) c.before.before.before.before.before.if6.true c.before.before.before.before.before.before.before.before.before.go.ensures c.before.before.before.before.before.before.before.if4.false c.before.before.before.child-at2.ensures (not-true _ c.if7.true)
 
 mul-wide-4 : tie.Need-overflow-mul-wide-4 invariant-loop decreases-loop
-mul-wide-4 c = let l = c.before.before.before.child-at2.ensures.inside (not_false _ c.if7.false) in omega (arith, c.before.before.before.before.before.before.before.before.before.before.before.before.before.before.before.loop.invariant.1.within, c.before.before.before.before.before.before.before.before.before.before.before.before.before.before.before.loop.invariant.1.marked, c.before.before.before.before.before.before.before.before.before.before.before.before.before.before.before.loop.invariant.4, l)
+mul-wide-4 c = let l = c.before.before.before.child-at2.ensures.inside (not-false _ c.if7.false) in omega (arith, c.before.before.before.before.before.before.before.before.before.before.before.before.before.before.before.loop.invariant.1.within, c.before.before.before.before.before.before.before.before.before.before.before.before.before.before.before.loop.invariant.1.marked, c.before.before.before.before.before.before.before.before.before.before.before.before.before.before.before.loop.invariant.4, l)
 
 add-wide-2 : tie.Need-overflow-add-wide-2 invariant-loop decreases-loop
-add-wide-2 c = let l = c.before.before.before.child-at2.ensures.inside (not_false _ c.if7.false) in omega (arith, c.before.before.before.before.before.before.before.before.before.before.before.before.before.before.before.loop.invariant.1.within, c.before.before.before.before.before.before.before.before.before.before.before.before.before.before.before.loop.invariant.1.marked, c.before.before.before.before.before.before.before.before.before.before.before.before.before.before.before.loop.invariant.4, l)
+add-wide-2 c = let l = c.before.before.before.child-at2.ensures.inside (not-false _ c.if7.false) in omega (arith, c.before.before.before.before.before.before.before.before.before.before.before.before.before.before.before.loop.invariant.1.within, c.before.before.before.before.before.before.before.before.before.before.before.before.before.before.before.loop.invariant.1.marked, c.before.before.before.before.before.before.before.before.before.before.before.before.before.before.before.loop.invariant.4, l)
 
 mul-wide-5 : tie.Need-overflow-mul-wide-5 invariant-loop decreases-loop
-mul-wide-5 c = let l = c.before.before.before.child-at2.ensures.inside (not_false _ c.if7.false) in omega (arith, c.before.before.before.before.before.before.before.before.before.before.before.before.before.before.before.loop.invariant.1.within, c.before.before.before.before.before.before.before.before.before.before.before.before.before.before.before.loop.invariant.1.marked, c.before.before.before.before.before.before.before.before.before.before.before.before.before.before.before.loop.invariant.4, l)
+mul-wide-5 c = let l = c.before.before.before.child-at2.ensures.inside (not-false _ c.if7.false) in omega (arith, c.before.before.before.before.before.before.before.before.before.before.before.before.before.before.before.loop.invariant.1.within, c.before.before.before.before.before.before.before.before.before.before.before.before.before.before.before.loop.invariant.1.marked, c.before.before.before.before.before.before.before.before.before.before.before.before.before.before.before.loop.invariant.4, l)
 
 shared-slice-read-wide-3 : tie.Need-shared-slice-read-wide-3 invariant-loop decreases-loop
-shared-slice-read-wide-3 c = let l = c.before.before.before.before.child-at2.ensures.inside (not_false _ c.before.if7.false) in omega (arith, c.before.before.before.before.before.before.before.before.before.before.before.before.before.before.before.before.loop.invariant.1.within, c.before.before.before.before.before.before.before.before.before.before.before.before.before.before.before.before.loop.invariant.1.marked, c.before.before.before.before.before.before.before.before.before.before.before.before.before.before.before.before.loop.invariant.4, l)
+shared-slice-read-wide-3 c = let l = c.before.before.before.before.child-at2.ensures.inside (not-false _ c.before.if7.false) in omega (arith, c.before.before.before.before.before.before.before.before.before.before.before.before.before.before.before.before.loop.invariant.1.within, c.before.before.before.before.before.before.before.before.before.before.before.before.before.before.before.before.loop.invariant.1.marked, c.before.before.before.before.before.before.before.before.before.before.before.before.before.before.before.before.loop.invariant.4, l)
 
 wide-requires-3 : tie.Need-wide-requires-3 invariant-loop decreases-loop
 wide-requires-3 c κs = search rules
 
 mul-wide-6 : tie.Need-overflow-mul-wide-6 invariant-loop decreases-loop
-mul-wide-6 c = let l = c.before.before.before.before.before.child-at2.ensures.inside (not_false _ c.before.before.if7.false) in omega (arith, c.before.before.before.before.before.before.before.before.before.before.before.before.before.before.before.before.before.loop.invariant.1.within, c.before.before.before.before.before.before.before.before.before.before.before.before.before.before.before.before.before.loop.invariant.1.marked, c.before.before.before.before.before.before.before.before.before.before.before.before.before.before.before.before.before.loop.invariant.4, l)
+mul-wide-6 c = let l = c.before.before.before.before.before.child-at2.ensures.inside (not-false _ c.before.before.if7.false) in omega (arith, c.before.before.before.before.before.before.before.before.before.before.before.before.before.before.before.before.before.loop.invariant.1.within, c.before.before.before.before.before.before.before.before.before.before.before.before.before.before.before.before.before.loop.invariant.1.marked, c.before.before.before.before.before.before.before.before.before.before.before.before.before.before.before.before.before.loop.invariant.4, l)
 
 shared-slice-read-wide-4 : tie.Need-shared-slice-read-wide-4 invariant-loop decreases-loop
-shared-slice-read-wide-4 c = let l = c.before.before.before.before.before.before.child-at2.ensures.inside (not_false _ c.before.before.before.if7.false) in omega (arith, c.before.before.before.before.before.before.before.before.before.before.before.before.before.before.before.before.before.before.loop.invariant.1.within, c.before.before.before.before.before.before.before.before.before.before.before.before.before.before.before.before.before.before.loop.invariant.1.marked, c.before.before.before.before.before.before.before.before.before.before.before.before.before.before.before.before.before.before.loop.invariant.4, l)
+shared-slice-read-wide-4 c = let l = c.before.before.before.before.before.before.child-at2.ensures.inside (not-false _ c.before.before.before.if7.false) in omega (arith, c.before.before.before.before.before.before.before.before.before.before.before.before.before.before.before.before.before.before.loop.invariant.1.within, c.before.before.before.before.before.before.before.before.before.before.before.before.before.before.before.before.before.before.loop.invariant.1.marked, c.before.before.before.before.before.before.before.before.before.before.before.before.before.before.before.before.before.before.loop.invariant.4, l)
 
 wide-requires-4 : tie.Need-wide-requires-4 invariant-loop decreases-loop
 wide-requires-4 c κs = search rules
 
 loop-less-3 : tie.Need-loop-smaller-3 invariant-loop decreases-loop
-loop-less-3 c = let u = plain_up _ _ _ _ _ c.before.before.before.before.before.before.before.before.before.before.before.before.before.before.before.before.before.before.before.loop.invariant.0 c.before.before.before.before.before.before.before.before.before.before.before.before.before.before.before.before.before.before.instr.ensures (c.before.before.before.before.before.before.before.child-at2.ensures.inside (not_false _ c.before.before.before.before.if7.false)) c.wide4.ensures.0 in omega (arith, u.0, u.1)
+loop-less-3 c = let u = plain_up _ _ _ _ _ c.before.before.before.before.before.before.before.before.before.before.before.before.before.before.before.before.before.before.before.loop.invariant.0 c.before.before.before.before.before.before.before.before.before.before.before.before.before.before.before.before.before.before.instr.ensures (c.before.before.before.before.before.before.before.child-at2.ensures.inside (not-false _ c.before.before.before.before.if7.false)) c.wide4.ensures.0 in omega (arith, u.0, u.1)
 
 loop-again-3 : tie.Need-loop-preserved-3 invariant-loop decreases-loop
-loop-again-3 c = (plain_rep _ _ _ _ _ c.before.before.before.before.before.before.before.before.before.before.before.before.before.before.before.before.before.before.before.loop.invariant.0 c.before.before.before.before.before.before.before.before.before.before.before.before.before.before.before.before.before.before.instr.ensures c.before.before.before.before.before.before.before.before.before.before.before.before.before.before.before.before.before.before.before.loop.invariant.3 (omega (arith, c.before.before.before.before.before.before.before.before.before.before.before.before.before.before.before.before.before.before.before.loop.invariant.1.deep, c.before.before.before.before.before.before.before.before.before.before.before.before.before.before.before.before.before.before.before.loop.invariant.0.long)) c.before.before.before.before.before.before.before.before.before.if6.true c.before.before.before.before.before.before.before.before.before.before.before.before.before.go.ensures c.before.before.before.before.before.before.before.before.before.before.before.if4.false c.before.before.before.before.before.before.before.child-at2.ensures (not_false _ c.before.before.before.before.if7.false) c.before.before.wide3.ensures.0 c.wide4.ensures.0, c.before.before.before.before.before.before.before.before.before.before.before.before.before.before.before.before.before.before.before.loop.invariant.1, c.before.before.before.before.before.before.before.before.before.before.before.before.before.before.before.before.before.before.before.loop.invariant.2, c.before.before.before.before.before.before.before.before.before.before.before.before.before.before.before.before.before.before.before.loop.invariant.3, c.before.before.before.before.before.before.before.before.before.before.before.before.before.before.before.before.before.before.before.loop.invariant.4)
+loop-again-3 c = (plain_rep _ _ _ _ _ c.before.before.before.before.before.before.before.before.before.before.before.before.before.before.before.before.before.before.before.loop.invariant.0 c.before.before.before.before.before.before.before.before.before.before.before.before.before.before.before.before.before.before.instr.ensures c.before.before.before.before.before.before.before.before.before.before.before.before.before.before.before.before.before.before.before.loop.invariant.3 (omega (arith, c.before.before.before.before.before.before.before.before.before.before.before.before.before.before.before.before.before.before.before.loop.invariant.1.deep, c.before.before.before.before.before.before.before.before.before.before.before.before.before.before.before.before.before.before.before.loop.invariant.0.long)) c.before.before.before.before.before.before.before.before.before.if6.true c.before.before.before.before.before.before.before.before.before.before.before.before.before.go.ensures c.before.before.before.before.before.before.before.before.before.before.before.if4.false c.before.before.before.before.before.before.before.child-at2.ensures (not-false _ c.before.before.before.before.if7.false) c.before.before.wide3.ensures.0 c.wide4.ensures.0, c.before.before.before.before.before.before.before.before.before.before.before.before.before.before.before.before.before.before.before.loop.invariant.1, c.before.before.before.before.before.before.before.before.before.before.before.before.before.before.before.before.before.before.before.loop.invariant.2, c.before.before.before.before.before.before.before.before.before.before.before.before.before.before.before.before.before.before.before.loop.invariant.3, c.before.before.before.before.before.before.before.before.before.before.before.before.before.before.before.before.before.before.before.loop.invariant.4)
 
 add-pc-2 : tie.Need-overflow-add-pc-2 invariant-loop decreases-loop
 add-pc-2 c = omega (arith, turn_within _ _ _ _ _ c.before.before.before.before.before.before.before.before.before.before.loop.invariant.0)

@@ -2,7 +2,7 @@ use native.Mathlib.Omega.{arith}
 use Prim.Native.Nat.{◌-◌, ◌+◌, ◌≤◌, ◌<◌}
 use mathlib.Core.Path.{◌≡◌, refl, sym, ap, ◌∙◌}
 use borrow.Author.Rules.{rules}
-use borrow.Author.Tests.{not_true, not_false}
+use borrow.Author.Tests.{not-true, not-false}
 use lib.ListN.{length}
 use Rattle.checker.specs.Lone.{Known}
 use Rattle.checker.proofs.Lones.{Trail, trail_start, trail_inside, trail_room, trail_known, trail_none, trail_on, trail_sign}
@@ -77,7 +77,7 @@ later-requires c κs = search rules
 
 -- src/lone.rt:126:13
 returns-3 : tie.Need-returns-3 invariant-loop decreases-loop
-returns-3 c = trail_sign c.before.before.before.before.before.before.before.before.before.loop.invariant.0 c.before.before.before.before.before.before.closer.ensures c.before.before.before.before.before.if2.false c.before.before.before.before.spaces.ensures c.before.before.before.two_at.ensures (not_true _ c.before.before.if3.true) c.before.sign_at.ensures c.before.before.before.before.before.before.before.before.before.loop.invariant.1 c.later.ensures
+returns-3 c = trail_sign c.before.before.before.before.before.before.before.before.before.loop.invariant.0 c.before.before.before.before.before.before.closer.ensures c.before.before.before.before.before.if2.false c.before.before.before.before.spaces.ensures c.before.before.before.two_at.ensures (not-true _ c.before.before.if3.true) c.before.sign_at.ensures c.before.before.before.before.before.before.before.before.before.loop.invariant.1 c.later.ensures
 
 -- src/lone.rt:98:5
 loop-less : tie.Need-loop-smaller invariant-loop decreases-loop
@@ -85,7 +85,7 @@ loop-less c = omega (arith, trail_inside c.before.before.before.before.before.be
 
 -- src/lone.rt:98:5
 loop-again : tie.Need-loop-preserved invariant-loop decreases-loop
-loop-again c = (trail_on c.before.before.before.before.before.before.before.loop.invariant.0 c.before.before.before.before.closer.ensures c.before.before.before.if2.false c.before.before.spaces.ensures c.before.two_at.ensures (not_false _ c.if3.false), c.before.before.before.before.before.before.before.loop.invariant.1)
+loop-again c = (trail_on c.before.before.before.before.before.before.before.loop.invariant.0 c.before.before.before.before.closer.ensures c.before.before.before.if2.false c.before.before.spaces.ensures c.before.two_at.ensures (not-false _ c.if3.false), c.before.before.before.before.before.before.before.loop.invariant.1)
 
 pub behind-spec : {M : Type 1} → statement M
 behind-spec =

@@ -1,7 +1,7 @@
 use native.Mathlib.Omega.{arith}
 use Prim.Native.Nat.{◌-◌, ◌+◌, ◌*◌, ◌<◌, ◌≤◌}
 use mathlib.Core.Path.{◌≡◌, refl, sym, ap, subst, ◌∙◌}
-use borrow.Author.Tests.{not_true, not_false}
+use borrow.Author.Tests.{not-true, not-false}
 use Rattle.checker.proofs.Nodes.{left_no, left_by, is_t, not_t, first_as, left_as, laid_as, text_as_lem, opened_as, node_piece, node_lost, node_by, family_linked}
 use Rattle.checker.proofs.Heads.{head_no, head_known, head_by}
 use Rattle.checker.proofs.Growns.{grown_none, grown_left_no, left_known, grown_by}
@@ -33,7 +33,7 @@ left-at-requires : tie.Need-left-at-requires
 left-at-requires c κs = let z = (chain_le _ _ ((c.before.before.before.before.before.before.before.before.requires.1.js)) _ ((c.before.before.before.before.before.before.before.before.requires.1.chain))) in omega (arith, (c.before.before.before.before.before.before.before.before.requires.0.within), (c.before.if1.false), z)
 
 returns-2 : tie.Need-returns-2
-returns-2 c = grown_left_no _ _ _ _ _ _ _ _ ((c.before.before.before.before.before.before.before.before.before.before.before.requires.2)) ((c.before.before.before.before.if1.false)) (chain_le _ _ ((c.before.before.before.before.before.before.before.before.before.before.before.requires.1.js)) _ ((c.before.before.before.before.before.before.before.before.before.before.before.requires.1.chain))) (not_true _ ((c.if2.true))) (left_as ((c.before.before.before.multi-line.ensures)) ((c.before.before.left_at.ensures.left)))
+returns-2 c = grown_left_no _ _ _ _ _ _ _ _ ((c.before.before.before.before.before.before.before.before.before.before.before.requires.2)) ((c.before.before.before.before.if1.false)) (chain_le _ _ ((c.before.before.before.before.before.before.before.before.before.before.before.requires.1.js)) _ ((c.before.before.before.before.before.before.before.before.before.before.before.requires.1.chain))) (not-true _ ((c.if2.true))) (left_as ((c.before.before.before.multi-line.ensures)) ((c.before.before.left_at.ensures.left)))
 
 slice-write-depths : tie.Need-slice-write-depths
 slice-write-depths c = let z = (chain_le _ _ ((c.before.before.before.before.before.before.before.before.before.before.before.requires.1.js)) _ ((c.before.before.before.before.before.before.before.before.before.before.before.requires.1.chain))) in omega (arith, (c.before.before.before.before.before.before.before.before.before.before.before.requires.0.deep), (c.before.before.before.before.if1.false), z)
@@ -63,25 +63,25 @@ wide-requires-2 : tie.Need-wide-requires-2
 wide-requires-2 c κs = search rules
 
 operator-requires : tie.Need-operator-requires
-operator-requires c κs = let z = (chain_le _ _ c.before.before.before.before.before.before.before.before.before.before.before.before.before.before.before.before.before.before.requires.1.js _ c.before.before.before.before.before.before.before.before.before.before.before.before.before.before.before.before.before.before.requires.1.chain) in let y = next_of _ _ c.before.before.before.before.before.before.before.before.before.before.before.before.before.before.before.before.before.before.requires.1.js _ c.before.before.before.before.before.before.before.before.before.before.before.before.before.before.before.before.before.before.requires.1.chain (omega (arith, z, c.before.before.before.before.before.before.before.before.before.before.before.if1.false)) in (record { within = c.before.before.before.before.before.before.before.before.before.before.before.before.before.before.before.before.before.before.requires.0.within; marked = c.before.before.before.before.before.before.before.before.before.before.before.before.before.before.before.before.before.before.requires.0.marked; deep = omega (arith, length-set c.before.before.before.before.before.before.before.before.before.before.before.before.before.before.before.before.before.before.args.depths.now c.before.before.before.before.before.before.before.before.before.before.before.before.before.before.before.before.before.before.args.first c.before.before.before.before.before.before.before.before.before.before.before.before.before.before.before.before.before.before.args.own, c.before.before.before.before.before.before.before.before.before.before.before.before.before.before.before.before.before.before.requires.0.deep); js = y.rest; chain = subst (Chain _ _ y.rest) (sym c.before.before.before.before.before.wide.ensures.0) y.chain }, c.before.before.before.before.before.before.before.before.before.before.multi-line.ensures, left_known c.before.before.before.before.before.before.before.before.before.before.before.before.before.before.before.before.before.before.args.s.now c.before.before.before.before.before.before.before.before.before.before.before.before.before.before.before.before.before.before.args.table.now c.before.before.before.before.before.before.before.before.before.before.before.before.before.before.before.before.before.before.args.i c.before.before.before.before.before.before.before.before.before.before.before.before.before.before.before.before.before.before.args.own [] [] [] c.before.before.before.before.before.before.before.before.before.before.before.before.before.before.before.before.before.before.args.first c.before.before.before.before.before.before.before.before.before.before.before.before.before.before.before.before.before.before.requires.2 c.before.before.before.before.before.before.before.before.before.before.before.if1.false z (not_false _ c.before.before.before.before.before.before.before.if2.false) (left_as c.before.before.before.before.before.before.before.before.before.before.multi-line.ensures c.before.before.before.before.before.before.before.before.before.left_at.ensures.left))
+operator-requires c κs = let z = (chain_le _ _ c.before.before.before.before.before.before.before.before.before.before.before.before.before.before.before.before.before.before.requires.1.js _ c.before.before.before.before.before.before.before.before.before.before.before.before.before.before.before.before.before.before.requires.1.chain) in let y = next_of _ _ c.before.before.before.before.before.before.before.before.before.before.before.before.before.before.before.before.before.before.requires.1.js _ c.before.before.before.before.before.before.before.before.before.before.before.before.before.before.before.before.before.before.requires.1.chain (omega (arith, z, c.before.before.before.before.before.before.before.before.before.before.before.if1.false)) in (record { within = c.before.before.before.before.before.before.before.before.before.before.before.before.before.before.before.before.before.before.requires.0.within; marked = c.before.before.before.before.before.before.before.before.before.before.before.before.before.before.before.before.before.before.requires.0.marked; deep = omega (arith, length-set c.before.before.before.before.before.before.before.before.before.before.before.before.before.before.before.before.before.before.args.depths.now c.before.before.before.before.before.before.before.before.before.before.before.before.before.before.before.before.before.before.args.first c.before.before.before.before.before.before.before.before.before.before.before.before.before.before.before.before.before.before.args.own, c.before.before.before.before.before.before.before.before.before.before.before.before.before.before.before.before.before.before.requires.0.deep); js = y.rest; chain = subst (Chain _ _ y.rest) (sym c.before.before.before.before.before.wide.ensures.0) y.chain }, c.before.before.before.before.before.before.before.before.before.before.multi-line.ensures, left_known c.before.before.before.before.before.before.before.before.before.before.before.before.before.before.before.before.before.before.args.s.now c.before.before.before.before.before.before.before.before.before.before.before.before.before.before.before.before.before.before.args.table.now c.before.before.before.before.before.before.before.before.before.before.before.before.before.before.before.before.before.before.args.i c.before.before.before.before.before.before.before.before.before.before.before.before.before.before.before.before.before.before.args.own [] [] [] c.before.before.before.before.before.before.before.before.before.before.before.before.before.before.before.before.before.before.args.first c.before.before.before.before.before.before.before.before.before.before.before.before.before.before.before.before.before.before.requires.2 c.before.before.before.before.before.before.before.before.before.before.before.if1.false z (not-false _ c.before.before.before.before.before.before.before.if2.false) (left_as c.before.before.before.before.before.before.before.before.before.before.multi-line.ensures c.before.before.before.before.before.before.before.before.before.left_at.ensures.left))
 
 same_length : tie.Need-same-length
-same_length c = omega (arith, (operator_laid c.before.before.before.before.before.before.before.before.before.before.before.before.before.multi-line.ensures c.before.before.before.before.before.before.before.before.before.before.before.before.left_at.ensures (not_false _ c.before.before.before.before.before.before.before.before.before.before.if2.false) c.before.before.before.before.before.before.wide2.ensures.0 c.before.before.before.before.if3.true c.before.before.operator.ensures).long, length-set c.before.before.before.before.before.before.before.before.before.before.before.before.before.before.before.before.before.before.before.before.before.args.depths.now c.before.before.before.before.before.before.before.before.before.before.before.before.before.before.before.before.before.before.before.before.before.args.first c.before.before.before.before.before.before.before.before.before.before.before.before.before.before.before.before.before.before.before.before.before.args.own)
+same_length c = omega (arith, (operator_laid c.before.before.before.before.before.before.before.before.before.before.before.before.before.multi-line.ensures c.before.before.before.before.before.before.before.before.before.before.before.before.left_at.ensures (not-false _ c.before.before.before.before.before.before.before.before.before.before.if2.false) c.before.before.before.before.before.before.wide2.ensures.0 c.before.before.before.before.if3.true c.before.before.operator.ensures).long, length-set c.before.before.before.before.before.before.before.before.before.before.before.before.before.before.before.before.before.before.before.before.before.args.depths.now c.before.before.before.before.before.before.before.before.before.before.before.before.before.before.before.before.before.before.before.before.before.args.first c.before.before.before.before.before.before.before.before.before.before.before.before.before.before.before.before.before.before.before.before.before.args.own)
 
 returns-3 : tie.Need-returns-3
-returns-3 c = let z = (chain_le _ _ c.before.before.before.before.before.before.before.before.before.before.before.before.before.before.before.before.before.before.before.before.before.requires.1.js _ c.before.before.before.before.before.before.before.before.before.before.before.before.before.before.before.before.before.before.before.before.before.requires.1.chain) in let y = next_of _ _ c.before.before.before.before.before.before.before.before.before.before.before.before.before.before.before.before.before.before.before.before.before.requires.1.js _ c.before.before.before.before.before.before.before.before.before.before.before.before.before.before.before.before.before.before.before.before.before.requires.1.chain (omega (arith, z, c.before.before.before.before.before.before.before.before.before.before.before.before.before.before.if1.false)) in grown_by _ _ _ _ _ _ _ _ c.before.before.before.before.before.before.before.before.before.before.before.before.before.before.before.before.before.before.before.before.before.requires.2 c.before.before.before.before.before.before.before.before.before.before.before.before.before.before.if1.false z (not_false _ c.before.before.before.before.before.before.before.before.before.before.if2.false) (left_as c.before.before.before.before.before.before.before.before.before.before.before.before.before.multi-line.ensures c.before.before.before.before.before.before.before.before.before.before.before.before.left_at.ensures.left) (omega (arith, z, c.before.before.before.before.before.before.before.before.before.before.before.before.before.before.before.before.before.before.before.before.before.requires.0.deep)) y.up c.before.before.before.before.before.before.before.before.wide.ensures.0 c.before.before.before.before.before.before.wide2.ensures.0 (operator_laid c.before.before.before.before.before.before.before.before.before.before.before.before.before.multi-line.ensures c.before.before.before.before.before.before.before.before.before.before.before.before.left_at.ensures (not_false _ c.before.before.before.before.before.before.before.before.before.before.if2.false) c.before.before.before.before.before.before.wide2.ensures.0 c.before.before.before.before.if3.true c.before.before.operator.ensures)
+returns-3 c = let z = (chain_le _ _ c.before.before.before.before.before.before.before.before.before.before.before.before.before.before.before.before.before.before.before.before.before.requires.1.js _ c.before.before.before.before.before.before.before.before.before.before.before.before.before.before.before.before.before.before.before.before.before.requires.1.chain) in let y = next_of _ _ c.before.before.before.before.before.before.before.before.before.before.before.before.before.before.before.before.before.before.before.before.before.requires.1.js _ c.before.before.before.before.before.before.before.before.before.before.before.before.before.before.before.before.before.before.before.before.before.requires.1.chain (omega (arith, z, c.before.before.before.before.before.before.before.before.before.before.before.before.before.before.if1.false)) in grown_by _ _ _ _ _ _ _ _ c.before.before.before.before.before.before.before.before.before.before.before.before.before.before.before.before.before.before.before.before.before.requires.2 c.before.before.before.before.before.before.before.before.before.before.before.before.before.before.if1.false z (not-false _ c.before.before.before.before.before.before.before.before.before.before.if2.false) (left_as c.before.before.before.before.before.before.before.before.before.before.before.before.before.multi-line.ensures c.before.before.before.before.before.before.before.before.before.before.before.before.left_at.ensures.left) (omega (arith, z, c.before.before.before.before.before.before.before.before.before.before.before.before.before.before.before.before.before.before.before.before.before.requires.0.deep)) y.up c.before.before.before.before.before.before.before.before.wide.ensures.0 c.before.before.before.before.before.before.wide2.ensures.0 (operator_laid c.before.before.before.before.before.before.before.before.before.before.before.before.before.multi-line.ensures c.before.before.before.before.before.before.before.before.before.before.before.before.left_at.ensures (not-false _ c.before.before.before.before.before.before.before.before.before.before.if2.false) c.before.before.before.before.before.before.wide2.ensures.0 c.before.before.before.before.if3.true c.before.before.operator.ensures)
 
 levels-requires : tie.Need-levels-requires
 levels-requires c κs = search rules
 
 growth-requires : tie.Need-growth-requires
-growth-requires c κs = let z = (chain_le _ _ c.before.before.before.before.before.before.before.before.before.before.before.before.before.before.before.before.before.before.before.requires.1.js _ c.before.before.before.before.before.before.before.before.before.before.before.before.before.before.before.before.before.before.before.requires.1.chain) in let y = next_of _ _ c.before.before.before.before.before.before.before.before.before.before.before.before.before.before.before.before.before.before.before.requires.1.js _ c.before.before.before.before.before.before.before.before.before.before.before.before.before.before.before.before.before.before.before.requires.1.chain (omega (arith, z, c.before.before.before.before.before.before.before.before.before.before.before.before.if1.false)) in (record { within = c.before.before.before.before.before.before.before.before.before.before.before.before.before.before.before.before.before.before.before.requires.0.within; marked = c.before.before.before.before.before.before.before.before.before.before.before.before.before.before.before.before.before.before.before.requires.0.marked; deep = omega (arith, length-set c.before.before.before.before.before.before.before.before.before.before.before.before.before.before.before.before.before.before.before.args.depths.now c.before.before.before.before.before.before.before.before.before.before.before.before.before.before.before.before.before.before.before.args.first c.before.before.before.before.before.before.before.before.before.before.before.before.before.before.before.before.before.before.before.args.own, c.before.before.before.before.before.before.before.before.before.before.before.before.before.before.before.before.before.before.before.requires.0.deep); js = y.rest; chain = subst (Chain _ _ y.rest) (sym c.before.before.before.before.before.before.wide.ensures.0) y.chain }, c.levels.ensures.1, left_known c.before.before.before.before.before.before.before.before.before.before.before.before.before.before.before.before.before.before.before.args.s.now c.before.before.before.before.before.before.before.before.before.before.before.before.before.before.before.before.before.before.before.args.table.now c.before.before.before.before.before.before.before.before.before.before.before.before.before.before.before.before.before.before.before.args.i c.before.before.before.before.before.before.before.before.before.before.before.before.before.before.before.before.before.before.before.args.own [] [] [] c.before.before.before.before.before.before.before.before.before.before.before.before.before.before.before.before.before.before.before.args.first c.before.before.before.before.before.before.before.before.before.before.before.before.before.before.before.before.before.before.before.requires.2 c.before.before.before.before.before.before.before.before.before.before.before.before.if1.false z (not_false _ c.before.before.before.before.before.before.before.before.if2.false) (left_as c.before.before.before.before.before.before.before.before.before.before.before.multi-line.ensures c.before.before.before.before.before.before.before.before.before.before.left_at.ensures.left), (λ e. clash (sym c.before.before.before.before.before.before.before.before.before.before.before.before.before.before.before.before.before.before.before.requires.2 ∙ ap is_grown e)), c.before.before.before.before.before.before.before.before.before.before.before.before.before.before.before.before.before.before.before.requires.0.small, c.levels.ensures.0, c.before.before.before.before.before.before.before.before.before.before.before.multi-line.ensures)
+growth-requires c κs = let z = (chain_le _ _ c.before.before.before.before.before.before.before.before.before.before.before.before.before.before.before.before.before.before.before.requires.1.js _ c.before.before.before.before.before.before.before.before.before.before.before.before.before.before.before.before.before.before.before.requires.1.chain) in let y = next_of _ _ c.before.before.before.before.before.before.before.before.before.before.before.before.before.before.before.before.before.before.before.requires.1.js _ c.before.before.before.before.before.before.before.before.before.before.before.before.before.before.before.before.before.before.before.requires.1.chain (omega (arith, z, c.before.before.before.before.before.before.before.before.before.before.before.before.if1.false)) in (record { within = c.before.before.before.before.before.before.before.before.before.before.before.before.before.before.before.before.before.before.before.requires.0.within; marked = c.before.before.before.before.before.before.before.before.before.before.before.before.before.before.before.before.before.before.before.requires.0.marked; deep = omega (arith, length-set c.before.before.before.before.before.before.before.before.before.before.before.before.before.before.before.before.before.before.before.args.depths.now c.before.before.before.before.before.before.before.before.before.before.before.before.before.before.before.before.before.before.before.args.first c.before.before.before.before.before.before.before.before.before.before.before.before.before.before.before.before.before.before.before.args.own, c.before.before.before.before.before.before.before.before.before.before.before.before.before.before.before.before.before.before.before.requires.0.deep); js = y.rest; chain = subst (Chain _ _ y.rest) (sym c.before.before.before.before.before.before.wide.ensures.0) y.chain }, c.levels.ensures.1, left_known c.before.before.before.before.before.before.before.before.before.before.before.before.before.before.before.before.before.before.before.args.s.now c.before.before.before.before.before.before.before.before.before.before.before.before.before.before.before.before.before.before.before.args.table.now c.before.before.before.before.before.before.before.before.before.before.before.before.before.before.before.before.before.before.before.args.i c.before.before.before.before.before.before.before.before.before.before.before.before.before.before.before.before.before.before.before.args.own [] [] [] c.before.before.before.before.before.before.before.before.before.before.before.before.before.before.before.before.before.before.before.args.first c.before.before.before.before.before.before.before.before.before.before.before.before.before.before.before.before.before.before.before.requires.2 c.before.before.before.before.before.before.before.before.before.before.before.before.if1.false z (not-false _ c.before.before.before.before.before.before.before.before.if2.false) (left_as c.before.before.before.before.before.before.before.before.before.before.before.multi-line.ensures c.before.before.before.before.before.before.before.before.before.before.left_at.ensures.left), (λ e. clash (sym c.before.before.before.before.before.before.before.before.before.before.before.before.before.before.before.before.before.before.before.requires.2 ∙ ap is_grown e)), c.before.before.before.before.before.before.before.before.before.before.before.before.before.before.before.before.before.before.before.requires.0.small, c.levels.ensures.0, c.before.before.before.before.before.before.before.before.before.before.before.multi-line.ensures)
 
 same-length-2 : tie.Need-same-length-2
 same-length-2 c = omega (arith, (c.before.before.growth.ensures.long), length-set ((c.before.before.before.before.before.before.before.before.before.before.before.before.before.before.before.before.before.before.before.before.before.before.args.depths.now)) ((c.before.before.before.before.before.before.before.before.before.before.before.before.before.before.before.before.before.before.before.before.before.before.args.first)) ((c.before.before.before.before.before.before.before.before.before.before.before.before.before.before.before.before.before.before.before.before.before.before.args.own)))
 
 returns-4 : tie.Need-returns-4
-returns-4 c = let z = (chain_le _ _ ((c.before.before.before.before.before.before.before.before.before.before.before.before.before.before.before.before.before.before.before.before.before.before.requires.1.js)) _ ((c.before.before.before.before.before.before.before.before.before.before.before.before.before.before.before.before.before.before.before.before.before.before.requires.1.chain))) in let y = next_of _ _ ((c.before.before.before.before.before.before.before.before.before.before.before.before.before.before.before.before.before.before.before.before.before.before.requires.1.js)) _ ((c.before.before.before.before.before.before.before.before.before.before.before.before.before.before.before.before.before.before.before.before.before.before.requires.1.chain)) (omega (arith, z, (c.before.before.before.before.before.before.before.before.before.before.before.before.before.before.before.if1.false))) in grown_by _ _ _ _ _ _ _ _ ((c.before.before.before.before.before.before.before.before.before.before.before.before.before.before.before.before.before.before.before.before.before.before.requires.2)) ((c.before.before.before.before.before.before.before.before.before.before.before.before.before.before.before.if1.false)) z (not_false _ ((c.before.before.before.before.before.before.before.before.before.before.before.if2.false))) (left_as ((c.before.before.before.before.before.before.before.before.before.before.before.before.before.before.multi-line.ensures)) ((c.before.before.before.before.before.before.before.before.before.before.before.before.before.left_at.ensures.left))) (omega (arith, z, (c.before.before.before.before.before.before.before.before.before.before.before.before.before.before.before.before.before.before.before.before.before.before.requires.0.deep))) y.up ((c.before.before.before.before.before.before.before.before.before.wide.ensures.0)) ((c.before.before.before.before.before.before.before.wide2.ensures.0)) c.before.before.growth.ensures
+returns-4 c = let z = (chain_le _ _ ((c.before.before.before.before.before.before.before.before.before.before.before.before.before.before.before.before.before.before.before.before.before.before.requires.1.js)) _ ((c.before.before.before.before.before.before.before.before.before.before.before.before.before.before.before.before.before.before.before.before.before.before.requires.1.chain))) in let y = next_of _ _ ((c.before.before.before.before.before.before.before.before.before.before.before.before.before.before.before.before.before.before.before.before.before.before.requires.1.js)) _ ((c.before.before.before.before.before.before.before.before.before.before.before.before.before.before.before.before.before.before.before.before.before.before.requires.1.chain)) (omega (arith, z, (c.before.before.before.before.before.before.before.before.before.before.before.before.before.before.before.if1.false))) in grown_by _ _ _ _ _ _ _ _ ((c.before.before.before.before.before.before.before.before.before.before.before.before.before.before.before.before.before.before.before.before.before.before.requires.2)) ((c.before.before.before.before.before.before.before.before.before.before.before.before.before.before.before.if1.false)) z (not-false _ ((c.before.before.before.before.before.before.before.before.before.before.before.if2.false))) (left_as ((c.before.before.before.before.before.before.before.before.before.before.before.before.before.before.multi-line.ensures)) ((c.before.before.before.before.before.before.before.before.before.before.before.before.before.left_at.ensures.left))) (omega (arith, z, (c.before.before.before.before.before.before.before.before.before.before.before.before.before.before.before.before.before.before.before.before.before.before.requires.0.deep))) y.up ((c.before.before.before.before.before.before.before.before.before.wide.ensures.0)) ((c.before.before.before.before.before.before.before.wide2.ensures.0)) c.before.before.growth.ensures
 
 pub grown-spec : {M : Type 1} → statement M
 grown-spec =

@@ -2,7 +2,7 @@ use native.Mathlib.Omega.{arith}
 use mathlib.Core.List.{[]}
 use Prim.Native.Nat.{◌-◌, ◌+◌, ◌*◌, ◌<◌, ◌≤◌}
 use mathlib.Core.Path.{◌≡◌, refl, sym, ap, subst, ◌∙◌}
-use borrow.Author.Tests.{not_true, not_false}
+use borrow.Author.Tests.{not-true, not-false}
 use Rattle.checker.proofs.Nodes.{left_no, left_by, is_t, not_t, first_as, left_as, laid_as, text_as_lem, opened_as, node_piece, node_lost, node_by, family_linked}
 use Rattle.checker.proofs.Heads.{head_no, head_known, head_by}
 use Rattle.checker.proofs.Growns.{grown_none, grown_left_no, left_known, grown_by}
@@ -50,7 +50,7 @@ first-at-requires c κs = search rules
 
 -- src/node.rt:101:9
 returns : tie.Need-returns
-returns c = heredoc_first_no _ _ _ _ _ _ _ _ (c.before.before.before.before.before.before.before.before.before.before.requires.2) (not_true _ (c.if1.true)) (first_as (c.before.before.before.wide.ensures.0) (c.before.before.multi-line.ensures) (c.before.first-at.ensures))
+returns c = heredoc_first_no _ _ _ _ _ _ _ _ (c.before.before.before.before.before.before.before.before.before.before.requires.2) (not-true _ (c.if1.true)) (first_as (c.before.before.before.wide.ensures.0) (c.before.before.multi-line.ensures) (c.before.first-at.ensures))
 
 -- src/node.rt:103:9
 opener-at-requires : tie.Need-opener-at-requires
@@ -58,7 +58,7 @@ opener-at-requires c κs = search rules
 
 -- src/node.rt:105:9
 returns-2 : tie.Need-returns-2
-returns-2 c = heredoc_no _ _ _ _ _ _ _ _ (c.before.before.before.before.before.before.before.before.before.before.before.before.before.requires.2) (not_false _ (c.before.before.before.if1.false)) (first_as (c.before.before.before.before.before.before.wide.ensures.0) (c.before.before.before.before.before.multi-line.ensures) (c.before.before.before.before.first-at.ensures)) (opened_as (c.before.before.before.before.before.before.wide.ensures.0) (c.before.before.opener-at.ensures)) (not_true _ (c.if2.true))
+returns-2 c = heredoc_no _ _ _ _ _ _ _ _ (c.before.before.before.before.before.before.before.before.before.before.before.before.before.requires.2) (not-false _ (c.before.before.before.if1.false)) (first_as (c.before.before.before.before.before.before.wide.ensures.0) (c.before.before.before.before.before.multi-line.ensures) (c.before.before.before.before.first-at.ensures)) (opened_as (c.before.before.before.before.before.before.wide.ensures.0) (c.before.before.opener-at.ensures)) (not-true _ (c.if2.true))
 
 -- src/node.rt:107:19
 mul-wide-3 : tie.Need-overflow-mul-wide-3
@@ -86,11 +86,11 @@ flag-of-requires c κs = search rules
 
 -- src/node.rt:108:9
 returns-3 : tie.Need-returns-3
-returns-3 c = heredoc_flag_no _ _ _ _ _ _ _ _ (c.before.before.before.before.before.before.before.before.before.before.before.before.before.before.before.before.before.requires.2) (not_false _ (c.before.before.before.before.before.before.before.if1.false)) (first_as (c.before.before.before.before.before.before.before.before.before.before.wide.ensures.0) (c.before.before.before.before.before.before.before.before.before.multi-line.ensures) (c.before.before.before.before.before.before.before.before.first-at.ensures)) (opened_as (c.before.before.before.before.before.before.before.before.before.before.wide.ensures.0) (c.before.before.before.before.before.before.opener-at.ensures)) (not_false _ (c.before.before.before.before.if2.false)) (λ e. c.if3.true (c.before.before.wide2.ensures.0 ∙ e ∙ sym (c.before.flag-of.ensures)))
+returns-3 c = heredoc_flag_no _ _ _ _ _ _ _ _ (c.before.before.before.before.before.before.before.before.before.before.before.before.before.before.before.before.before.requires.2) (not-false _ (c.before.before.before.before.before.before.before.if1.false)) (first_as (c.before.before.before.before.before.before.before.before.before.before.wide.ensures.0) (c.before.before.before.before.before.before.before.before.before.multi-line.ensures) (c.before.before.before.before.before.before.before.before.first-at.ensures)) (opened_as (c.before.before.before.before.before.before.before.before.before.before.wide.ensures.0) (c.before.before.before.before.before.before.opener-at.ensures)) (not-false _ (c.before.before.before.before.if2.false)) (λ e. c.if3.true (c.before.before.wide2.ensures.0 ∙ e ∙ sym (c.before.flag-of.ensures)))
 
 -- src/node.rt:110:5
 texts-requires : tie.Need-texts-requires
-texts-requires c κs = (record { within = c.before.before.before.before.before.before.before.before.before.before.before.before.before.before.before.before.before.before.requires.0.within; marked = c.before.before.before.before.before.before.before.before.before.before.before.before.before.before.before.before.before.before.requires.0.marked; deep = c.before.before.before.before.before.before.before.before.before.before.before.before.before.before.before.before.before.before.requires.0.deep; js = c.before.before.before.before.before.before.before.before.before.before.before.before.before.before.before.before.before.before.requires.1.js; chain = c.before.before.before.before.before.before.before.before.before.before.before.before.before.before.before.before.before.before.requires.1.chain; mode = heredoc_mode (c.before.before.before.before.before.before.before.before.before.before.before.before.before.before.before.before.before.before.args.s.now) [] (c.before.before.before.before.before.before.before.before.before.before.before.before.before.before.before.before.before.before.args.table.now) (c.before.before.before.before.before.before.before.before.before.before.before.before.before.before.before.before.before.before.args.i) (c.before.before.before.before.before.before.before.before.before.before.before.before.before.before.before.before.before.before.args.own) [] [] 0 (c.before.before.before.before.before.before.before.before.before.before.before.before.before.before.before.before.before.before.requires.2) (not_false _ (c.before.before.before.before.before.before.before.before.if1.false)) (first_as (c.before.before.before.before.before.before.before.before.before.before.before.wide.ensures.0) (c.before.before.before.before.before.before.before.before.before.before.multi-line.ensures) (c.before.before.before.before.before.before.before.before.before.first-at.ensures)) (opened_as (c.before.before.before.before.before.before.before.before.before.before.before.wide.ensures.0) (c.before.before.before.before.before.before.before.opener-at.ensures)) }, omega (arith, c.before.before.before.before.before.before.before.opener-at.ensures.high, c.before.before.before.before.before.before.before.before.before.before.before.wide.ensures.1, c.before.before.before.before.before.before.before.before.before.before.before.before.before.before.before.before.before.before.requires.0.short))
+texts-requires c κs = (record { within = c.before.before.before.before.before.before.before.before.before.before.before.before.before.before.before.before.before.before.requires.0.within; marked = c.before.before.before.before.before.before.before.before.before.before.before.before.before.before.before.before.before.before.requires.0.marked; deep = c.before.before.before.before.before.before.before.before.before.before.before.before.before.before.before.before.before.before.requires.0.deep; js = c.before.before.before.before.before.before.before.before.before.before.before.before.before.before.before.before.before.before.requires.1.js; chain = c.before.before.before.before.before.before.before.before.before.before.before.before.before.before.before.before.before.before.requires.1.chain; mode = heredoc_mode (c.before.before.before.before.before.before.before.before.before.before.before.before.before.before.before.before.before.before.args.s.now) [] (c.before.before.before.before.before.before.before.before.before.before.before.before.before.before.before.before.before.before.args.table.now) (c.before.before.before.before.before.before.before.before.before.before.before.before.before.before.before.before.before.before.args.i) (c.before.before.before.before.before.before.before.before.before.before.before.before.before.before.before.before.before.before.args.own) [] [] 0 (c.before.before.before.before.before.before.before.before.before.before.before.before.before.before.before.before.before.before.requires.2) (not-false _ (c.before.before.before.before.before.before.before.before.if1.false)) (first_as (c.before.before.before.before.before.before.before.before.before.before.before.wide.ensures.0) (c.before.before.before.before.before.before.before.before.before.before.multi-line.ensures) (c.before.before.before.before.before.before.before.before.before.first-at.ensures)) (opened_as (c.before.before.before.before.before.before.before.before.before.before.before.wide.ensures.0) (c.before.before.before.before.before.before.before.opener-at.ensures)) }, omega (arith, c.before.before.before.before.before.before.before.opener-at.ensures.high, c.before.before.before.before.before.before.before.before.before.before.before.wide.ensures.1, c.before.before.before.before.before.before.before.before.before.before.before.before.before.before.before.before.before.before.requires.0.short))
 
 -- src/node.rt:86:1
 same_length : tie.Need-same-length
@@ -98,7 +98,7 @@ same_length c = search rules
 
 -- src/node.rt:86:1
 returns-4 : tie.Need-returns-4
-returns-4 c = heredoc_by _ _ _ _ _ _ _ _ (c.before.before.before.before.before.before.before.before.before.before.before.before.before.before.before.before.before.before.before.before.before.requires.2) (not_false _ (c.before.before.before.before.before.before.before.before.before.before.before.if1.false)) (first_as (c.before.before.before.before.before.before.before.before.before.before.before.before.before.before.wide.ensures.0) (c.before.before.before.before.before.before.before.before.before.before.before.before.before.multi-line.ensures) (c.before.before.before.before.before.before.before.before.before.before.before.before.first-at.ensures)) (opened_as (c.before.before.before.before.before.before.before.before.before.before.before.before.before.before.wide.ensures.0) (c.before.before.before.before.before.before.before.before.before.before.opener-at.ensures)) (not_false _ (c.before.before.before.before.before.before.before.before.if2.false)) (sym (c.before.before.before.before.before.before.wide2.ensures.0) ∙ c.before.before.before.before.if3.false ∙ c.before.before.before.before.before.flag-of.ensures) (c.before.before.texts.ensures)
+returns-4 c = heredoc_by _ _ _ _ _ _ _ _ (c.before.before.before.before.before.before.before.before.before.before.before.before.before.before.before.before.before.before.before.before.before.requires.2) (not-false _ (c.before.before.before.before.before.before.before.before.before.before.before.if1.false)) (first_as (c.before.before.before.before.before.before.before.before.before.before.before.before.before.before.wide.ensures.0) (c.before.before.before.before.before.before.before.before.before.before.before.before.before.multi-line.ensures) (c.before.before.before.before.before.before.before.before.before.before.before.before.first-at.ensures)) (opened_as (c.before.before.before.before.before.before.before.before.before.before.before.before.before.before.wide.ensures.0) (c.before.before.before.before.before.before.before.before.before.before.opener-at.ensures)) (not-false _ (c.before.before.before.before.before.before.before.before.if2.false)) (sym (c.before.before.before.before.before.before.wide2.ensures.0) ∙ c.before.before.before.before.if3.false ∙ c.before.before.before.before.before.flag-of.ensures) (c.before.before.texts.ensures)
 
 pub heredoc-spec : {M : Type 1} → statement M
 heredoc-spec =

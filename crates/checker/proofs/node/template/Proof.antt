@@ -2,7 +2,7 @@ use native.Mathlib.Omega.{arith}
 use mathlib.Core.List.{[]}
 use Prim.Native.Nat.{◌-◌, ◌+◌, ◌*◌, ◌<◌, ◌≤◌}
 use mathlib.Core.Path.{◌≡◌, refl, sym, ap, subst, ◌∙◌}
-use borrow.Author.Tests.{not_true, not_false}
+use borrow.Author.Tests.{not-true, not-false}
 use Rattle.checker.proofs.Nodes.{left_no, left_by, is_t, not_t, first_as, left_as, laid_as, text_as_lem, opened_as, node_piece, node_lost, node_by, family_linked}
 use Rattle.checker.proofs.Heads.{head_no, head_known, head_by}
 use Rattle.checker.proofs.Growns.{grown_none, grown_left_no, left_known, grown_by}
@@ -68,7 +68,7 @@ first-at-requires c κs = search rules
 
 -- src/node.rt:67:9
 returns-2 : tie.Need-returns-2
-returns-2 c = template_first_no _ _ _ _ _ _ _ _ (c.before.before.before.before.before.before.before.before.before.before.before.before.requires.2) (not_true _ (c.if2.true)) (first_as (c.before.before.before.before.before.wide.ensures.0) (c.before.before.multi-line.ensures) (c.before.first-at.ensures))
+returns-2 c = template_first_no _ _ _ _ _ _ _ _ (c.before.before.before.before.before.before.before.before.before.before.before.before.requires.2) (not-true _ (c.if2.true)) (first_as (c.before.before.before.before.before.wide.ensures.0) (c.before.before.multi-line.ensures) (c.before.first-at.ensures))
 
 -- src/node.rt:77:9
 add-texts : tie.Need-overflow-add-texts
@@ -76,7 +76,7 @@ add-texts c = search rules
 
 -- src/node.rt:69:5
 texts-requires : tie.Need-texts-requires
-texts-requires c κs = (record { within = c.before.before.before.before.before.before.before.before.before.before.before.before.before.requires.0.within; marked = c.before.before.before.before.before.before.before.before.before.before.before.before.before.requires.0.marked; deep = c.before.before.before.before.before.before.before.before.before.before.before.before.before.requires.0.deep; js = c.before.before.before.before.before.before.before.before.before.before.before.before.before.requires.1.js; chain = c.before.before.before.before.before.before.before.before.before.before.before.before.before.requires.1.chain; mode = template_mode (c.before.before.before.before.before.before.before.before.before.before.before.before.before.args.s.now) [] (c.before.before.before.before.before.before.before.before.before.before.before.before.before.args.table.now) (c.before.before.before.before.before.before.before.before.before.before.before.before.before.args.i) (c.before.before.before.before.before.before.before.before.before.before.before.before.before.args.own) [] [] 0 (c.before.before.before.before.before.before.before.before.before.before.before.before.before.requires.2) (not_false _ (c.before.if2.false)) (first_as (c.before.before.before.before.before.before.wide.ensures.0) (c.before.before.before.multi-line.ensures) (c.before.before.first-at.ensures)) }, omega (arith, c.before.before.before.before.before.before.wide.ensures.1))
+texts-requires c κs = (record { within = c.before.before.before.before.before.before.before.before.before.before.before.before.before.requires.0.within; marked = c.before.before.before.before.before.before.before.before.before.before.before.before.before.requires.0.marked; deep = c.before.before.before.before.before.before.before.before.before.before.before.before.before.requires.0.deep; js = c.before.before.before.before.before.before.before.before.before.before.before.before.before.requires.1.js; chain = c.before.before.before.before.before.before.before.before.before.before.before.before.before.requires.1.chain; mode = template_mode (c.before.before.before.before.before.before.before.before.before.before.before.before.before.args.s.now) [] (c.before.before.before.before.before.before.before.before.before.before.before.before.before.args.table.now) (c.before.before.before.before.before.before.before.before.before.before.before.before.before.args.i) (c.before.before.before.before.before.before.before.before.before.before.before.before.before.args.own) [] [] 0 (c.before.before.before.before.before.before.before.before.before.before.before.before.before.requires.2) (not-false _ (c.before.if2.false)) (first_as (c.before.before.before.before.before.before.wide.ensures.0) (c.before.before.before.multi-line.ensures) (c.before.before.first-at.ensures)) }, omega (arith, c.before.before.before.before.before.before.wide.ensures.1))
 
 -- src/node.rt:49:1
 same_length : tie.Need-same-length
@@ -84,7 +84,7 @@ same_length c = search rules
 
 -- src/node.rt:49:1
 returns-3 : tie.Need-returns-3
-returns-3 c = template_by _ _ _ _ _ _ _ _ (c.before.before.before.before.before.before.before.before.before.before.before.before.before.before.before.before.requires.2) (not_false _ (c.before.before.before.before.if2.false)) (first_as (c.before.before.before.before.before.before.before.before.before.wide.ensures.0) (c.before.before.before.before.before.before.multi-line.ensures) (c.before.before.before.before.before.first-at.ensures)) (c.before.before.before.before.before.before.before.if1.false) (text_as_lem (ap (λ x. x + 1) (c.before.before.before.before.before.before.before.before.before.wide.ensures.0)) (c.before.before.texts.ensures))
+returns-3 c = template_by _ _ _ _ _ _ _ _ (c.before.before.before.before.before.before.before.before.before.before.before.before.before.before.before.before.requires.2) (not-false _ (c.before.before.before.before.if2.false)) (first_as (c.before.before.before.before.before.before.before.before.before.wide.ensures.0) (c.before.before.before.before.before.before.multi-line.ensures) (c.before.before.before.before.before.first-at.ensures)) (c.before.before.before.before.before.before.before.if1.false) (text_as_lem (ap (λ x. x + 1) (c.before.before.before.before.before.before.before.before.before.wide.ensures.0)) (c.before.before.texts.ensures))
 
 pub template-spec : {M : Type 1} → statement M
 template-spec =

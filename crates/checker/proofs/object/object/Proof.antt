@@ -1,7 +1,7 @@
 use native.Mathlib.Omega.{arith}
 use Prim.Native.Nat.{◌-◌}
 use mathlib.Core.Path.{◌≡◌, refl, ◌∙◌}
-use borrow.Author.Tests.{not_true, not_false}
+use borrow.Author.Tests.{not-true, not-false}
 use borrow.Author.Rules.{rules}
 use lib.ListN.{length}
 use Rattle.checker.specs.Lay.{Laying}
@@ -53,10 +53,10 @@ same-length-3 : tie.Need-same-length-3 invariant-loop decreases-loop
 same-length-3 c = c.before.before.before.before.before.before.before.before.before.before.before.loop.invariant.4
 
 returns-5 : tie.Need-returns-5 invariant-loop decreases-loop
-returns-5 c = (object_item_no _ _ _ _ _ _ _ _ _ c.before.before.before.before.before.before.pass.ensures c.before.before.before.before.before.before.before.before.before.before.before.loop.invariant.0 c.before.before.before.before.before.before.before.before.before.before.before.loop.invariant.1.deep (not_true _ c.if5.true), c.before.before.before.before.before.before.before.before.before.before.before.loop.invariant.5.key)
+returns-5 c = (object_item_no _ _ _ _ _ _ _ _ _ c.before.before.before.before.before.before.pass.ensures c.before.before.before.before.before.before.before.before.before.before.before.loop.invariant.0 c.before.before.before.before.before.before.before.before.before.before.before.loop.invariant.1.deep (not-true _ c.if5.true), c.before.before.before.before.before.before.before.before.before.before.before.loop.invariant.5.key)
 
 tell-requires : tie.Need-tell-requires invariant-loop decreases-loop
-tell-requires c κs = (omega (arith, c.before.before.before.before.before.before.before.pass.ensures.inside (not_false _ c.before.if5.false), c.before.before.before.before.before.before.before.before.before.before.before.before.loop.invariant.1.within), omega (arith, c.before.before.before.before.before.before.before.pass.ensures.inside (not_false _ c.before.if5.false), c.before.before.before.before.before.before.before.before.before.before.before.before.loop.invariant.5.room))
+tell-requires c κs = (omega (arith, c.before.before.before.before.before.before.before.pass.ensures.inside (not-false _ c.before.if5.false), c.before.before.before.before.before.before.before.before.before.before.before.before.loop.invariant.1.within), omega (arith, c.before.before.before.before.before.before.before.pass.ensures.inside (not-false _ c.before.if5.false), c.before.before.before.before.before.before.before.before.before.before.before.before.loop.invariant.5.room))
 
 ends-requires-2 : tie.Need-ends-requires-2 invariant-loop decreases-loop
 ends-requires-2 c κs = c.before.before.before.before.before.before.before.before.before.before.before.before.before.before.before.before.before.before.loop.invariant.1.within
@@ -71,7 +71,7 @@ same-length-6 : tie.Need-same-length-6 invariant-loop decreases-loop
 same-length-6 c = omega (arith, c.before.before.before.before.before.before.tell.ensures.long, c.before.before.before.before.before.before.before.before.before.before.before.before.before.before.before.before.before.before.before.loop.invariant.4)
 
 returns-6 : tie.Need-returns-6 invariant-loop decreases-loop
-returns-6 c = (object_end _ _ _ _ _ _ _ _ _ (object_item _ _ _ _ _ _ _ _ _ c.before.before.before.before.before.before.before.before.before.before.before.before.before.before.pass.ensures c.before.before.before.before.before.before.before.before.before.before.before.before.before.before.before.before.before.before.before.loop.invariant.0 c.before.before.before.before.before.before.before.before.before.before.before.before.before.before.before.before.before.before.before.loop.invariant.1.deep (not_false _ c.before.before.before.before.before.before.before.before.if5.false)) c.before.before.before.after.ensures c.before.if6.true c.ends2.ensures, told_on c.before.before.before.before.before.before.before.before.before.before.before.before.before.before.before.before.before.before.before.loop.invariant.5.key c.before.before.before.before.before.before.before.before.before.before.before.before.before.before.before.before.before.before.token-at.ensures c.before.before.before.before.before.before.before.before.before.before.before.before.before.before.before.before.before.alone.ensures c.before.before.before.before.before.before.tell.ensures)
+returns-6 c = (object_end _ _ _ _ _ _ _ _ _ (object_item _ _ _ _ _ _ _ _ _ c.before.before.before.before.before.before.before.before.before.before.before.before.before.before.pass.ensures c.before.before.before.before.before.before.before.before.before.before.before.before.before.before.before.before.before.before.before.loop.invariant.0 c.before.before.before.before.before.before.before.before.before.before.before.before.before.before.before.before.before.before.before.loop.invariant.1.deep (not-false _ c.before.before.before.before.before.before.before.before.if5.false)) c.before.before.before.after.ensures c.before.if6.true c.ends2.ensures, told_on c.before.before.before.before.before.before.before.before.before.before.before.before.before.before.before.before.before.before.before.loop.invariant.5.key c.before.before.before.before.before.before.before.before.before.before.before.before.before.before.before.before.before.before.token-at.ensures c.before.before.before.before.before.before.before.before.before.before.before.before.before.before.before.before.before.alone.ensures c.before.before.before.before.before.before.tell.ensures)
 
 same-length-7 : tie.Need-same-length-7 invariant-loop decreases-loop
 same-length-7 c = omega (arith, c.before.before.before.before.before.before.before.before.before.before.before.before.before.before.before.pass.ensures.long, ahead_long _ _ _ _ _ _ _ _ _ c.before.before.before.before.before.before.before.before.before.before.before.before.before.before.before.before.before.before.before.before.loop.invariant.0)
@@ -83,14 +83,14 @@ same-length-9 : tie.Need-same-length-9 invariant-loop decreases-loop
 same-length-9 c = omega (arith, c.before.before.before.before.before.before.before.tell.ensures.long, c.before.before.before.before.before.before.before.before.before.before.before.before.before.before.before.before.before.before.before.before.loop.invariant.4)
 
 returns-7 : tie.Need-returns-7 invariant-loop decreases-loop
-returns-7 c = (object_open _ _ _ _ _ _ _ _ _ (object_item _ _ _ _ _ _ _ _ _ c.before.before.before.before.before.before.before.before.before.before.before.before.before.before.before.pass.ensures c.before.before.before.before.before.before.before.before.before.before.before.before.before.before.before.before.before.before.before.before.loop.invariant.0 c.before.before.before.before.before.before.before.before.before.before.before.before.before.before.before.before.before.before.before.before.loop.invariant.1.deep (not_false _ c.before.before.before.before.before.before.before.before.before.if5.false)) c.before.before.before.before.after.ensures c.before.before.if6.false c.if7.true, told_on c.before.before.before.before.before.before.before.before.before.before.before.before.before.before.before.before.before.before.before.before.loop.invariant.5.key c.before.before.before.before.before.before.before.before.before.before.before.before.before.before.before.before.before.before.before.token-at.ensures c.before.before.before.before.before.before.before.before.before.before.before.before.before.before.before.before.before.before.alone.ensures c.before.before.before.before.before.before.before.tell.ensures)
+returns-7 c = (object_open _ _ _ _ _ _ _ _ _ (object_item _ _ _ _ _ _ _ _ _ c.before.before.before.before.before.before.before.before.before.before.before.before.before.before.before.pass.ensures c.before.before.before.before.before.before.before.before.before.before.before.before.before.before.before.before.before.before.before.before.loop.invariant.0 c.before.before.before.before.before.before.before.before.before.before.before.before.before.before.before.before.before.before.before.before.loop.invariant.1.deep (not-false _ c.before.before.before.before.before.before.before.before.before.if5.false)) c.before.before.before.before.after.ensures c.before.before.if6.false c.if7.true, told_on c.before.before.before.before.before.before.before.before.before.before.before.before.before.before.before.before.before.before.before.before.loop.invariant.5.key c.before.before.before.before.before.before.before.before.before.before.before.before.before.before.before.before.before.before.before.token-at.ensures c.before.before.before.before.before.before.before.before.before.before.before.before.before.before.before.before.before.before.alone.ensures c.before.before.before.before.before.before.before.tell.ensures)
 
 loop-less : tie.Need-loop-smaller invariant-loop decreases-loop
-loop-less c = let u = object_up _ _ _ _ _ _ _ _ _ c.before.before.before.before.before.before.before.before.before.before.before.before.before.before.before.before.pass.ensures c.before.before.before.before.before.before.before.before.before.before.before.before.before.before.before.before.before.before.before.before.before.loop.invariant.0 (not_false _ c.before.before.before.before.before.before.before.before.before.before.if5.false) in omega (arith, u.0, u.1)
+loop-less c = let u = object_up _ _ _ _ _ _ _ _ _ c.before.before.before.before.before.before.before.before.before.before.before.before.before.before.before.before.pass.ensures c.before.before.before.before.before.before.before.before.before.before.before.before.before.before.before.before.before.before.before.before.before.loop.invariant.0 (not-false _ c.before.before.before.before.before.before.before.before.before.before.if5.false) in omega (arith, u.0, u.1)
 
 loop-again : tie.Need-loop-preserved invariant-loop decreases-loop
 loop-again c = (
-  object_more _ _ _ _ _ _ _ _ _ (object_item _ _ _ _ _ _ _ _ _ c.before.before.before.before.before.before.before.before.before.before.before.before.before.before.before.before.pass.ensures c.before.before.before.before.before.before.before.before.before.before.before.before.before.before.before.before.before.before.before.before.before.loop.invariant.0 c.before.before.before.before.before.before.before.before.before.before.before.before.before.before.before.before.before.before.before.before.before.loop.invariant.1.deep (not_false _ c.before.before.before.before.before.before.before.before.before.before.if5.false)) c.before.before.before.before.before.after.ensures c.before.if7.false,
+  object_more _ _ _ _ _ _ _ _ _ (object_item _ _ _ _ _ _ _ _ _ c.before.before.before.before.before.before.before.before.before.before.before.before.before.before.before.before.pass.ensures c.before.before.before.before.before.before.before.before.before.before.before.before.before.before.before.before.before.before.before.before.before.loop.invariant.0 c.before.before.before.before.before.before.before.before.before.before.before.before.before.before.before.before.before.before.before.before.before.loop.invariant.1.deep (not-false _ c.before.before.before.before.before.before.before.before.before.before.if5.false)) c.before.before.before.before.before.after.ensures c.before.if7.false,
   c.before.before.before.before.before.before.before.before.before.before.before.before.before.before.before.before.before.before.before.before.before.loop.invariant.1,
   c.before.before.before.before.before.before.before.before.before.before.before.before.before.before.before.before.pass.ensures.room ∙ c.before.before.before.before.before.before.before.before.before.before.before.before.before.before.before.before.before.before.before.before.before.loop.invariant.2,
   c.before.before.before.before.before.before.before.before.before.before.before.before.before.before.before.before.before.before.before.alone.ensures.known,

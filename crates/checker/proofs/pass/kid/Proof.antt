@@ -1,7 +1,7 @@
 use native.Mathlib.Omega.{arith}
 use Prim.Native.Nat.{◌-◌, ◌+◌, ◌*◌, ◌<◌, ◌≤◌}
 use mathlib.Core.Path.{◌≡◌, refl, sym, ap, subst, ◌∙◌}
-use borrow.Author.Tests.{not_true, not_false}
+use borrow.Author.Tests.{not-true, not-false}
 use Rattle.checker.proofs.Passes.{kid_none, kid_not, kid_yes}
 use borrow.Author.Rules.{rules}
 use Rattle.checker.proofs.pass.kid.Statement.{statement}
@@ -20,7 +20,7 @@ suits-requires c κs = search rules
 
 -- src/pass.rt:70:9
 returns-2 : tie.Need-returns-2
-returns-2 c = kid_not c.before.suits.ensures (not_true _ c.if2.true)
+returns-2 c = kid_not c.before.suits.ensures (not-true _ c.if2.true)
 
 -- src/pass.rt:72:5
 slice-write-depths : tie.Need-slice-write-depths
@@ -32,7 +32,7 @@ same_length c = search rules
 
 -- src/pass.rt:53:1
 returns-3 : tie.Need-returns-3
-returns-3 c = kid_yes c.before.suits.ensures (not_false _ c.if2.false) (omega (arith, c.before.before.if1.false, c.before.before.before.before.before.requires.linked))
+returns-3 c = kid_yes c.before.suits.ensures (not-false _ c.if2.false) (omega (arith, c.before.before.if1.false, c.before.before.before.before.before.requires.linked))
 
 pub kid-spec : {M : Type 1} → statement M
 kid-spec =

@@ -1,5 +1,5 @@
 use native.Mathlib.Omega.{arith}
-use borrow.Author.Tests.{not_true, not_false}
+use borrow.Author.Tests.{not-true, not-false}
 use mathlib.Core.Path.{◌≡◌, sym, ◌∙◌}
 use Rattle.checker.specs.Rows.{row_at}
 use Rattle.checker.proofs.Programs.{sits_in, seat_tight}
@@ -16,10 +16,10 @@ returns-2 : tie.Need-returns-2
 returns-2 c = suits_no (λ a b d e. omega (arith, b, c.if2.true, c.before.before.before.before.wide.ensures.0, c.before.wide2.ensures.0))
 
 returns-3 : tie.Need-returns-3
-returns-3 c = suits_no (λ a b d e. right_no _ _ c.before.groups.ensures (seat_tight (row_at c.before.before.before.before.before.before.before.before.before.before.before.args.table.now c.before.before.before.before.before.before.before.before.before.before.before.args.j).kind c.before.before.seat.ensures) (not_true _ c.if3.true) d)
+returns-3 c = suits_no (λ a b d e. right_no _ _ c.before.groups.ensures (seat_tight (row_at c.before.before.before.before.before.before.before.before.before.before.before.args.table.now c.before.before.before.before.before.before.before.before.before.before.before.args.j).kind c.before.before.seat.ensures) (not-true _ c.if3.true) d)
 
 returns-4 : tie.Need-returns-4
-returns-4 c = suits_by (sits_in c.before.before.before.before.before.before.before.before.before.before.before.before.args.want (row_at c.before.before.before.before.before.before.before.before.before.before.before.before.args.table.now c.before.before.before.before.before.before.before.before.before.before.before.before.args.j).kind c.sits.ensures c.before.before.before.seat.ensures) (sym c.before.before.before.before.before.before.before.before.before.wide.ensures.0 ∙ c.before.before.before.before.before.before.before.before.if1.false) (right_yes _ _ c.before.before.groups.ensures (seat_tight (row_at c.before.before.before.before.before.before.before.before.before.before.before.before.args.table.now c.before.before.before.before.before.before.before.before.before.before.before.before.args.j).kind c.before.before.before.seat.ensures) (not_false _ c.before.if3.false))
+returns-4 c = suits_by (sits_in c.before.before.before.before.before.before.before.before.before.before.before.before.args.want (row_at c.before.before.before.before.before.before.before.before.before.before.before.before.args.table.now c.before.before.before.before.before.before.before.before.before.before.before.before.args.j).kind c.sits.ensures c.before.before.before.seat.ensures) (sym c.before.before.before.before.before.before.before.before.before.wide.ensures.0 ∙ c.before.before.before.before.before.before.before.before.if1.false) (right_yes _ _ c.before.before.groups.ensures (seat_tight (row_at c.before.before.before.before.before.before.before.before.before.before.before.before.args.table.now c.before.before.before.before.before.before.before.before.before.before.before.before.args.j).kind c.before.before.before.seat.ensures) (not-false _ c.before.if3.false))
 
 pub suits-spec : {M : Type 1} → statement M
 suits-spec =

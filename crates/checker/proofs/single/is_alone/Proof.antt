@@ -1,5 +1,5 @@
 use mathlib.Core.Path.{◌≡◌, refl, sym, ap, subst, ◌∙◌}
-use borrow.Author.Tests.{not_true, not_false}
+use borrow.Author.Tests.{not-true, not-false}
 use Rattle.checker.proofs.Singles.{token_no, token_by}
 use borrow.Author.Rules.{rules}
 use Rattle.checker.proofs.single.is_alone.Statement.{statement}

@@ -1,5 +1,5 @@
 use mathlib.Core.Path.{◌≡◌, refl, sym, ap, subst, ◌∙◌}
-use borrow.Author.Tests.{not_true, not_false}
+use borrow.Author.Tests.{not-true, not-false}
 use Rattle.checker.proofs.Singles.{sure}
 use Rattle.checker.proofs.Looks.{look_as, look_none, look_key, look_name, look_dot}
 use borrow.Author.Rules.{rules}
@@ -34,7 +34,7 @@ is-alone-requires : tie.Need-is-alone-requires
 is-alone-requires c κs = c.before.before.before.before.before.before.before.before.before.before.before.before.before.before.before.requires.0
 
 returns-6 : tie.Need-returns-6
-returns-6 c = look_as c.looked4.ensures (sure (c.before.before.before.before.before.before.is-token.ensures (not_false _ c.before.before.before.before.before.if4.false)) c.before.before.before.before.before.before.before.before.before.before.before.wide.ensures.0 c.before.before.before.before.head_at.ensures c.before.before.if5.false c.before.is-alone.ensures)
+returns-6 c = look_as c.looked4.ensures (sure (c.before.before.before.before.before.before.is-token.ensures (not-false _ c.before.before.before.before.before.if4.false)) c.before.before.before.before.before.before.before.before.before.before.before.wide.ensures.0 c.before.before.before.before.head_at.ensures c.before.before.if5.false c.before.is-alone.ensures)
 
 pub single-spec : {M : Type 1} → statement M
 single-spec =

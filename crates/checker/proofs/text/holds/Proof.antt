@@ -1,6 +1,6 @@
 use Prim.Native.Nat.{◌-◌}
 use native.Mathlib.Omega.{arith}
-use borrow.Author.Tests.{not_true, not_false}
+use borrow.Author.Tests.{not-true, not-false}
 use Rattle.checker.proofs.Spellings.{Holding, hold_start, hold_no, hold_more, hold_end}
 use borrow.Author.Rules.{rules}
 use Rattle.checker.proofs.text.holds.Statement.{statement}
@@ -19,10 +19,10 @@ add-one-at : tie.Need-overflow-add-one-at invariant-loop decreases-loop
 add-one-at c = omega (arith, c.before.loop.invariant.room)
 
 returns : tie.Need-returns invariant-loop decreases-loop
-returns c = hold_no c.before.before.before.loop.invariant c.before.before.loop-test.true c.before.one_at.ensures (not_true _ c.if1.true)
+returns c = hold_no c.before.before.before.loop.invariant c.before.before.loop-test.true c.before.one_at.ensures (not-true _ c.if1.true)
 
 loop-again : tie.Need-loop-preserved invariant-loop decreases-loop
-loop-again c = hold_more c.before.before.before.loop.invariant c.before.before.loop-test.true c.before.one_at.ensures (not_false _ c.if1.false)
+loop-again c = hold_more c.before.before.before.loop.invariant c.before.before.loop-test.true c.before.one_at.ensures (not-false _ c.if1.false)
 
 returns-2 : tie.Need-returns-2 invariant-loop decreases-loop
 returns-2 c = hold_end c.before.loop.invariant c.loop-test.false

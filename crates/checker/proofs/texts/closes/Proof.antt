@@ -1,6 +1,6 @@
 use Prim.Native.Nat.{◌-◌, ◌+◌, ◌*◌, ◌<◌, ◌≤◌}
 use mathlib.Core.Path.{◌≡◌, refl, sym, ap, subst, ◌∙◌}
-use borrow.Author.Tests.{not_true, not_false}
+use borrow.Author.Tests.{not-true, not-false}
 use Rattle.grammar.specs.MoveLaws.{no_to}
 use Rattle.checker.proofs.Strands.{closes_quote, closes_never, closes_line, closes_as_lem}
 use borrow.Author.Rules.{rules}

@@ -1,6 +1,6 @@
 use Prim.Native.Nat.{◌-◌, ◌+◌, ◌*◌, ◌<◌, ◌≤◌}
 use mathlib.Core.Path.{◌≡◌, refl, sym, ap, subst, ◌∙◌}
-use borrow.Author.Tests.{not_true, not_false}
+use borrow.Author.Tests.{not-true, not-false}
 use Rattle.checker.proofs.Strands.{opens_by, opens_text, opens_no}
 use borrow.Author.Rules.{rules}
 use Rattle.checker.proofs.texts.opens.Statement.{statement}
@@ -17,7 +17,7 @@ two-at-requires c κs = search rules
 
 -- src/texts.rt:71:9
 returns : tie.Need-returns
-returns c = opens_no (sym (c.before.two_at.ensures) ∙ not_true _ (c.if1.true))
+returns c = opens_no (sym (c.before.two_at.ensures) ∙ not-true _ (c.if1.true))
 
 -- src/texts.rt:73:9
 run-at-requires : tie.Need-run-at-requires

@@ -1,6 +1,6 @@
 use Prim.Native.Nat.{◌-◌, ◌+◌, ◌*◌, ◌<◌, ◌≤◌}
 use mathlib.Core.Path.{◌≡◌, refl, sym, ap, subst, ◌∙◌}
-use borrow.Author.Tests.{not_true, not_false}
+use borrow.Author.Tests.{not-true, not-false}
 use Rattle.checker.proofs.Strands.{shuts_text, shuts_by}
 use borrow.Author.Rules.{rules}
 use Rattle.checker.proofs.texts.shuts.Statement.{statement}

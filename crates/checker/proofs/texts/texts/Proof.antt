@@ -2,7 +2,7 @@ use native.Mathlib.Omega.{arith}
 use borrow.Author.Rules.{rules}
 use Prim.Native.Nat.{◌-◌, ◌+◌, ◌*◌, ◌<◌, ◌≤◌}
 use mathlib.Core.Path.{◌≡◌, refl, sym, ap, subst, ◌∙◌}
-use borrow.Author.Tests.{not_true, not_false}
+use borrow.Author.Tests.{not-true, not-false}
 use lib.ListN.{length, set}
 use Rattle.checker.specs.Texts.{Texting}
 use Rattle.checker.proofs.Lays.{chain_le, next_of}
@@ -67,7 +67,7 @@ same-length-2 c = omega (arith, c.before.before.before.loop.invariant.2.long)
 
 -- src/texts.rt:142:13
 returns-2 : tie.Need-returns-2 invariant-loop decreases-loop
-returns-2 c = do_strand_no _ _ _ _ _ _ _ _ (c.before.before.before.loop.invariant.2) (c.before.before.before.loop.invariant.0.mode) (not_true _ (c.if2.true)) (c.before.before.if1.false) (chain_le _ _ (c.before.before.before.loop.invariant.2.js) _ (c.before.before.before.loop.invariant.2.chain)) (c.before.strand.ensures)
+returns-2 c = do_strand_no _ _ _ _ _ _ _ _ (c.before.before.before.loop.invariant.2) (c.before.before.before.loop.invariant.0.mode) (not-true _ (c.if2.true)) (c.before.before.if1.false) (chain_le _ _ (c.before.before.before.loop.invariant.2.js) _ (c.before.before.before.loop.invariant.2.chain)) (c.before.strand.ensures)
 
 -- src/texts.rt:144:9
 slice-write-depths : tie.Need-slice-write-depths invariant-loop decreases-loop
@@ -111,7 +111,7 @@ loop-less c = let z = chain_le _ _ (c.before.before.before.before.before.before.
 
 -- src/texts.rt:137:5
 loop-again : tie.Need-loop-preserved invariant-loop decreases-loop
-loop-again c = (c.before.before.before.before.before.before.before.loop.invariant.0, omega (arith, c.before.before.wide2.ensures.1), do_strand _ _ _ _ _ _ _ _ (c.before.before.before.before.before.before.before.loop.invariant.2) (c.before.before.before.before.before.before.before.loop.invariant.0.mode) (not_false _ (c.before.before.before.before.if2.false)) (c.before.before.before.before.before.before.if1.false) (chain_le _ _ (c.before.before.before.before.before.before.before.loop.invariant.2.js) _ (c.before.before.before.before.before.before.before.loop.invariant.2.chain)) (omega (arith, c.before.before.before.before.before.before.before.loop.invariant.0.deep, c.before.before.before.before.before.before.before.loop.invariant.2.long)) (c.before.before.before.before.before.strand.ensures) (c.before.before.wide2.ensures.0) (c.wide3.ensures.0), (let z = c.before.before.before.before.before.before.before.loop.invariant.3 in let y = next_of _ _ (c.before.before.before.before.before.before.before.loop.invariant.2.js) _ (c.before.before.before.before.before.before.before.loop.invariant.2.chain) (omega (arith, z, c.before.before.before.before.before.before.if1.false)) in omega (arith, y.far, c.wide3.ensures.0)))
+loop-again c = (c.before.before.before.before.before.before.before.loop.invariant.0, omega (arith, c.before.before.wide2.ensures.1), do_strand _ _ _ _ _ _ _ _ (c.before.before.before.before.before.before.before.loop.invariant.2) (c.before.before.before.before.before.before.before.loop.invariant.0.mode) (not-false _ (c.before.before.before.before.if2.false)) (c.before.before.before.before.before.before.if1.false) (chain_le _ _ (c.before.before.before.before.before.before.before.loop.invariant.2.js) _ (c.before.before.before.before.before.before.before.loop.invariant.2.chain)) (omega (arith, c.before.before.before.before.before.before.before.loop.invariant.0.deep, c.before.before.before.before.before.before.before.loop.invariant.2.long)) (c.before.before.before.before.before.strand.ensures) (c.before.before.wide2.ensures.0) (c.wide3.ensures.0), (let z = c.before.before.before.before.before.before.before.loop.invariant.3 in let y = next_of _ _ (c.before.before.before.before.before.before.before.loop.invariant.2.js) _ (c.before.before.before.before.before.before.before.loop.invariant.2.chain) (omega (arith, z, c.before.before.before.before.before.before.if1.false)) in omega (arith, y.far, c.wide3.ensures.0)))
 
 pub texts-spec : {M : Type 1} → statement M
 texts-spec =

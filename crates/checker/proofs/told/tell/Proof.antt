@@ -1,6 +1,6 @@
 use native.Mathlib.Omega.{arith}
 use mathlib.Core.Path.{◌≡◌, sym, ◌∙◌}
-use borrow.Author.Tests.{not_false}
+use borrow.Author.Tests.{not-false}
 use Rattle.checker.proofs.Tolds.{tells_none, tells_one}
 use borrow.Author.Rules.{rules}
 use Rattle.checker.proofs.told.tell.Statement.{statement}
@@ -58,7 +58,7 @@ slice-write-told : tie.Need-slice-write-told
 slice-write-told c = omega (arith, c.before.before.before.before.before.before.before.before.before.before.before.before.before.requires.1, c.before.before.before.before.before.before.before.if2.false, c.before.before.before.before.before.before.if3.false)
 
 returns-6 : tie.Need-returns-6
-returns-6 c = tells_one _ (not_false _ c.before.before.before.before.before.before.before.before.before.before.if1.false) (sym c.before.before.before.before.wide2.ensures.0 ∙ c.before.before.before.if4.false) (sym c.before.wide3.ensures.0 ∙ c.if5.false)
+returns-6 c = tells_one _ (not-false _ c.before.before.before.before.before.before.before.before.before.before.if1.false) (sym c.before.before.before.before.wide2.ensures.0 ∙ c.before.before.before.if4.false) (sym c.before.wide3.ensures.0 ∙ c.if5.false)
 
 pub tell-spec : {M : Type 1} → statement M
 tell-spec =

@@ -1,4 +1,4 @@
-use borrow.Author.Tests.{not_false}
+use borrow.Author.Tests.{not-false}
 use Rattle.lexis.specs.Bytes.{is_digit, is_start}
 use Rattle.grammar.proofs.Leaves.{tested}
 use Rattle.grammar.proofs.Heads.{head_digits, head_other, head_call, head_constant, head_variable}
@@ -67,7 +67,7 @@ headed-requires-3 c κs = search rules
 
 -- src/picks.rt:173:9
 returns-3 : tie.Need-returns-3
-returns-3 c = head_call c.before.before.before.before.before.before.before.before.before.before.args.lines (tested is_digit c.before.before.before.before.before.before.before.before.byte_at.ensures c.before.before.before.before.before.before.before.is_digit.ensures c.before.before.before.before.before.before.if1.false) (tested is_start c.before.before.before.before.before.before.before.before.byte_at.ensures c.before.before.before.before.before.is-start.ensures (not_false c.before.before.before.before.before.is-start.result c.before.before.before.before.if2.false)) c.before.before.before.ident_end.ensures c.before.before.calls.ensures c.before.if3.true c.headed3.ensures
+returns-3 c = head_call c.before.before.before.before.before.before.before.before.before.before.args.lines (tested is_digit c.before.before.before.before.before.before.before.before.byte_at.ensures c.before.before.before.before.before.before.before.is_digit.ensures c.before.before.before.before.before.before.if1.false) (tested is_start c.before.before.before.before.before.before.before.before.byte_at.ensures c.before.before.before.before.before.is-start.ensures (not-false c.before.before.before.before.before.is-start.result c.before.before.before.before.if2.false)) c.before.before.before.ident_end.ensures c.before.before.calls.ensures c.before.if3.true c.headed3.ensures
 
 -- src/picks.rt:175:9
 constant-at-requires : tie.Need-constant-at-requires
@@ -79,7 +79,7 @@ headed-requires-4 c κs = search rules
 
 -- src/picks.rt:177:9
 returns-4 : tie.Need-returns-4
-returns-4 c = head_constant c.before.before.before.before.before.before.before.before.before.before.before.before.args.lines (tested is_digit c.before.before.before.before.before.before.before.before.before.before.byte_at.ensures c.before.before.before.before.before.before.before.before.before.is_digit.ensures c.before.before.before.before.before.before.before.before.if1.false) (tested is_start c.before.before.before.before.before.before.before.before.before.before.byte_at.ensures c.before.before.before.before.before.before.before.is-start.ensures (not_false c.before.before.before.before.before.before.before.is-start.result c.before.before.before.before.before.before.if2.false)) c.before.before.before.before.before.ident_end.ensures c.before.before.before.before.calls.ensures c.before.before.before.if3.false c.before.before.constant-at.ensures c.before.if4.true c.headed4.ensures
+returns-4 c = head_constant c.before.before.before.before.before.before.before.before.before.before.before.before.args.lines (tested is_digit c.before.before.before.before.before.before.before.before.before.before.byte_at.ensures c.before.before.before.before.before.before.before.before.before.is_digit.ensures c.before.before.before.before.before.before.before.before.if1.false) (tested is_start c.before.before.before.before.before.before.before.before.before.before.byte_at.ensures c.before.before.before.before.before.before.before.is-start.ensures (not-false c.before.before.before.before.before.before.before.is-start.result c.before.before.before.before.before.before.if2.false)) c.before.before.before.before.before.ident_end.ensures c.before.before.before.before.calls.ensures c.before.before.before.if3.false c.before.before.constant-at.ensures c.before.if4.true c.headed4.ensures
 
 -- src/picks.rt:179:5
 headed-requires-5 : tie.Need-headed-requires-5
@@ -87,7 +87,7 @@ headed-requires-5 c κs = search rules
 
 -- src/picks.rt:159:1
 returns-5 : tie.Need-returns-5
-returns-5 c = head_variable c.before.before.before.before.before.before.before.before.before.before.before.before.args.lines (tested is_digit c.before.before.before.before.before.before.before.before.before.before.byte_at.ensures c.before.before.before.before.before.before.before.before.before.is_digit.ensures c.before.before.before.before.before.before.before.before.if1.false) (tested is_start c.before.before.before.before.before.before.before.before.before.before.byte_at.ensures c.before.before.before.before.before.before.before.is-start.ensures (not_false c.before.before.before.before.before.before.before.is-start.result c.before.before.before.before.before.before.if2.false)) c.before.before.before.before.before.ident_end.ensures c.before.before.before.before.calls.ensures c.before.before.before.if3.false c.before.before.constant-at.ensures c.before.if4.false c.headed5.ensures
+returns-5 c = head_variable c.before.before.before.before.before.before.before.before.before.before.before.before.args.lines (tested is_digit c.before.before.before.before.before.before.before.before.before.before.byte_at.ensures c.before.before.before.before.before.before.before.before.before.is_digit.ensures c.before.before.before.before.before.before.before.before.if1.false) (tested is_start c.before.before.before.before.before.before.before.before.before.before.byte_at.ensures c.before.before.before.before.before.before.before.is-start.ensures (not-false c.before.before.before.before.before.before.before.is-start.result c.before.before.before.before.before.before.if2.false)) c.before.before.before.before.before.ident_end.ensures c.before.before.before.before.calls.ensures c.before.before.before.if3.false c.before.before.constant-at.ensures c.before.if4.false c.headed5.ensures
 
 pub head-at-spec : {M : Type 1} → statement M
 head-at-spec =

@@ -1,5 +1,5 @@
 use native.Mathlib.Omega.{arith}
-use borrow.Author.Tests.{not_false}
+use borrow.Author.Tests.{not-false}
 use Rattle.lexis.specs.Bytes.{is_start}
 use Rattle.grammar.proofs.Leaves.{tested}
 use Rattle.grammar.proofs.Keys.{key_none, key_constant, key_variable}
@@ -74,7 +74,7 @@ keyed-requires-4 c κs = search rules
 
 -- src/picks.rt:336:9
 returns-4 : tie.Need-returns-4
-returns-4 c = key_constant (tested is_start c.before.before.before.before.before.before.before.before.before.before.byte_at.ensures c.before.before.before.before.before.before.before.before.before.is-start.ensures (not_false c.before.before.before.before.before.before.before.before.before.is-start.result c.before.before.before.before.before.before.before.before.if1.false)) c.before.before.before.before.before.before.before.ident_end.ensures c.before.before.before.before.before.before.skip-line.ensures c.before.before.before.before.before.if2.false c.before.before.before.before.sign_of.ensures c.before.before.before.if3.false c.before.before.constant-at.ensures c.before.if4.true c.keyed4.ensures
+returns-4 c = key_constant (tested is_start c.before.before.before.before.before.before.before.before.before.before.byte_at.ensures c.before.before.before.before.before.before.before.before.before.is-start.ensures (not-false c.before.before.before.before.before.before.before.before.before.is-start.result c.before.before.before.before.before.before.before.before.if1.false)) c.before.before.before.before.before.before.before.ident_end.ensures c.before.before.before.before.before.before.skip-line.ensures c.before.before.before.before.before.if2.false c.before.before.before.before.sign_of.ensures c.before.before.before.if3.false c.before.before.constant-at.ensures c.before.if4.true c.keyed4.ensures
 
 -- src/picks.rt:338:33
 sub-keyed-2 : tie.Need-overflow-sub-keyed-2
@@ -86,7 +86,7 @@ keyed-requires-5 c κs = search rules
 
 -- src/picks.rt:317:1
 returns-5 : tie.Need-returns-5
-returns-5 c = key_variable (tested is_start c.before.before.before.before.before.before.before.before.before.before.byte_at.ensures c.before.before.before.before.before.before.before.before.before.is-start.ensures (not_false c.before.before.before.before.before.before.before.before.before.is-start.result c.before.before.before.before.before.before.before.before.if1.false)) c.before.before.before.before.before.before.before.ident_end.ensures c.before.before.before.before.before.before.skip-line.ensures c.before.before.before.before.before.if2.false c.before.before.before.before.sign_of.ensures c.before.before.before.if3.false c.before.before.constant-at.ensures c.before.if4.false c.keyed5.ensures
+returns-5 c = key_variable (tested is_start c.before.before.before.before.before.before.before.before.before.before.byte_at.ensures c.before.before.before.before.before.before.before.before.before.is-start.ensures (not-false c.before.before.before.before.before.before.before.before.before.is-start.result c.before.before.before.before.before.before.before.before.if1.false)) c.before.before.before.before.before.before.before.ident_end.ensures c.before.before.before.before.before.before.skip-line.ensures c.before.before.before.before.before.if2.false c.before.before.before.before.sign_of.ensures c.before.before.before.if3.false c.before.before.constant-at.ensures c.before.if4.false c.keyed5.ensures
 
 pub key-at-spec : {M : Type 1} → statement M
 key-at-spec =

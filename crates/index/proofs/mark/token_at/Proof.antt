@@ -1,6 +1,6 @@
 -- The first byte says which key it is.
 use mathlib.Core.Path.{◌≡◌, sym, ◌∙◌}
-use borrow.Author.Tests.{not_true, not_false}
+use borrow.Author.Tests.{not-true, not-false}
 use Rattle.lexis.specs.Bytes.{is_start}
 use Rattle.lexis.proofs.Runs.{tested}
 use Rattle.index.proofs.Marks.{token_none, token_text}

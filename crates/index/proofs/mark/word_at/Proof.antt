@@ -3,7 +3,7 @@ use Prim.Native.Nat.{◌-◌}
 use native.Mathlib.Omega.{arith}
 use mathlib.Core.Path.{◌≡◌, sym, ◌∙◌}
 use lib.ListN.{length}
-use borrow.Author.Tests.{not_true, not_false}
+use borrow.Author.Tests.{not-true, not-false}
 use Rattle.lexis.specs.Bytes.{byte_at, is_within}
 use Rattle.lexis.specs.Word.{ident_to}
 use Rattle.lexis.proofs.Runs.{small_rest}
@@ -25,10 +25,10 @@ loop-again : tie.Need-loop-preserved invariant-loop decreases-loop
 loop-again c = wording_on c.before.before.before.before.before.loop.invariant c.before.before.before.byte_at.ensures (small_rest c.before.before.before.byte_at.result (sym c.before.before.within.ensures ∙ c.before.if1.true)) c.mix.ensures
 
 returns : tie.Need-returns invariant-loop decreases-loop
-returns c = token_stop c.before.before.before.before.before.before.loop.invariant c.before.before.before.before.before.before.before.before.requires c.before.before.before.before.byte_at.ensures (sym c.before.is-rest.ensures ∙ not_true _ c.if2.true)
+returns c = token_stop c.before.before.before.before.before.before.loop.invariant c.before.before.before.before.before.before.before.before.requires c.before.before.before.before.byte_at.ensures (sym c.before.is-rest.ensures ∙ not-true _ c.if2.true)
 
 loop-again-2 : tie.Need-loop-preserved-2 invariant-loop decreases-loop
-loop-again-2 c = wording_on c.before.before.before.before.before.before.before.loop.invariant c.before.before.before.before.before.byte_at.ensures (sym c.before.before.is-rest.ensures ∙ not_false _ c.before.if2.false) c.mix2.ensures
+loop-again-2 c = wording_on c.before.before.before.before.before.before.before.loop.invariant c.before.before.before.before.before.byte_at.ensures (sym c.before.before.is-rest.ensures ∙ not-false _ c.before.if2.false) c.mix2.ensures
 
 returns-2 : tie.Need-returns-2 invariant-loop decreases-loop
 returns-2 c = token_last c.before.loop.invariant c.before.before.before.requires c.loop-test.false

@@ -1,5 +1,5 @@
 use mathlib.Core.Path.{sym, ◌∙◌}
-use borrow.Author.Tests.{not_true, not_false}
+use borrow.Author.Tests.{not-true, not-false}
 use Rattle.reader.proofs.Keepings.{keep_none, keep_one}
 use borrow.Author.Rules.{rules}
 use Rattle.reader.proofs.items.keep.Statement.{statement}
@@ -31,7 +31,7 @@ lone-requires c κs = search rules
 
 -- src/items.rt:144:9
 returns-2 : tie.Need-returns-2
-returns-2 c = keep_none c.before.before.before.before.before.requires (sym c.before.lone.ensures ∙ not_true c.before.lone.result c.if2.true)
+returns-2 c = keep_none c.before.before.before.before.before.requires (sym c.before.lone.ensures ∙ not-true c.before.lone.result c.if2.true)
 
 -- src/items.rt:146:5
 insert-requires-2 : tie.Need-insert-requires-2
@@ -47,7 +47,7 @@ same-length-2 c = search rules
 
 -- src/items.rt:127:1
 returns-3 : tie.Need-returns-3
-returns-3 c = keep_one c.before.before.before.before.before.before.before.before.before.requires (sym c.before.before.before.before.before.lone.ensures ∙ not_false c.before.before.before.before.before.lone.result c.before.before.before.before.if2.false) c.before.before.insert2.ensures
+returns-3 c = keep_one c.before.before.before.before.before.before.before.before.before.requires (sym c.before.before.before.before.before.lone.ensures ∙ not-false c.before.before.before.before.before.lone.result c.before.before.before.before.if2.false) c.before.before.insert2.ensures
 
 pub keep_spec : {M : Type 1} → statement M
 keep_spec =

@@ -3,7 +3,7 @@ use Prim.Native.Nat.{ℕ, ◌+◌, ◌*◌, ◌-◌, ◌<◌}
 use mathlib.Core.Path.{ap}
 use native.Mathlib.Omega.{arith}
 use lib.ListN.{length}
-use borrow.Author.Tests.{not_true, not_false}
+use borrow.Author.Tests.{not-true, not-false}
 use Rattle.reader.specs.Text.{flag_of}
 use Rattle.reader.proofs.Quotes.{heredoc_no, heredoc_asked, heredoc_texting, heredoc_said}
 use borrow.Author.Rules.{rules}
@@ -21,19 +21,19 @@ calls t = (opener-at-reads.Asked, opener-at-reads.Learnt, unexpected-reads.Asked
 
 module _ (t : ℕ) where
   returns : heredoc-lts.Need-returns (calls t) (heredoc-at t) heredoc.Post
-  returns c = heredoc_no c.before.before.before.before.before.before.before.before.before.args.s.now c.before.before.before.before.before.before.before.before.before.args.left c.before.before.before.before.before.before.before.before.before.args.lines c.before.before.before.before.before.before.before.before.before.args.p c.before.before.before.before.before.before.before.before.before.requires.1.1 c.before.before.before.before.opener-at.ensures (not_true _ c.before.before.if1.true) c.before.unexpected.ensures c.refuse.ensures c.before.before.before.before.before.before.before.before.before.requires.1.0.inside
+  returns c = heredoc_no c.before.before.before.before.before.before.before.before.before.args.s.now c.before.before.before.before.before.before.before.before.before.args.left c.before.before.before.before.before.before.before.before.before.args.lines c.before.before.before.before.before.before.before.before.before.args.p c.before.before.before.before.before.before.before.before.before.requires.1.1 c.before.before.before.before.opener-at.ensures (not-true _ c.before.before.if1.true) c.before.unexpected.ensures c.refuse.ensures c.before.before.before.before.before.before.before.before.before.requires.1.0.inside
 
   pieces-requires : heredoc-lts.Need-pieces-requires (calls t) (heredoc-at t) heredoc.Post
-  pieces-requires c κs = (omega (arith, c.before.before.before.before.before.before.before.before.before.before.before.requires.0, c.before.before.before.before.before.before.opener-at.ensures, c.before.before.before.before.before.before.before.before.before.before.before.requires.1.0), (heredoc_asked c.before.before.before.before.before.before.before.before.before.before.before.args.s.now c.before.before.before.before.before.before.before.before.before.before.before.args.left c.before.before.before.before.before.before.before.before.before.before.before.args.lines c.before.before.before.before.before.before.before.before.before.before.before.args.p c.before.before.before.before.before.before.before.before.before.before.before.requires.1.1 c.before.before.before.before.before.before.opener-at.ensures c.before.before.before.before.before.before.before.before.before.before.before.requires.1.0, heredoc_texting c.before.before.before.before.before.before.before.before.before.before.before.args.s.now c.before.before.before.before.before.before.before.before.before.before.before.args.left c.before.before.before.before.before.before.before.before.before.before.before.args.lines c.before.before.before.before.before.before.before.before.before.before.before.args.p c.before.before.before.before.before.before.before.before.before.before.before.requires.1.1 c.before.before.before.before.before.before.opener-at.ensures (not_false _ c.before.before.before.before.if1.false) 1 (omega arith)))
+  pieces-requires c κs = (omega (arith, c.before.before.before.before.before.before.before.before.before.before.before.requires.0, c.before.before.before.before.before.before.opener-at.ensures, c.before.before.before.before.before.before.before.before.before.before.before.requires.1.0), (heredoc_asked c.before.before.before.before.before.before.before.before.before.before.before.args.s.now c.before.before.before.before.before.before.before.before.before.before.before.args.left c.before.before.before.before.before.before.before.before.before.before.before.args.lines c.before.before.before.before.before.before.before.before.before.before.before.args.p c.before.before.before.before.before.before.before.before.before.before.before.requires.1.1 c.before.before.before.before.before.before.opener-at.ensures c.before.before.before.before.before.before.before.before.before.before.before.requires.1.0, heredoc_texting c.before.before.before.before.before.before.before.before.before.before.before.args.s.now c.before.before.before.before.before.before.before.before.before.before.before.args.left c.before.before.before.before.before.before.before.before.before.before.before.args.lines c.before.before.before.before.before.before.before.before.before.before.before.args.p c.before.before.before.before.before.before.before.before.before.before.before.requires.1.1 c.before.before.before.before.before.before.opener-at.ensures (not-false _ c.before.before.before.before.if1.false) 1 (omega arith)))
 
   returns-2 : heredoc-lts.Need-returns-2 (calls t) (heredoc-at t) heredoc.Post
-  returns-2 c = heredoc_said c.before.before.before.before.before.before.before.before.before.before.before.before.before.before.before.before.before.before.args.s.now c.before.before.before.before.before.before.before.before.before.before.before.before.before.before.before.before.before.before.args.left c.before.before.before.before.before.before.before.before.before.before.before.before.before.before.before.before.before.before.args.lines c.before.before.before.before.before.before.before.before.before.before.before.before.before.before.before.before.before.before.args.p c.before.before.before.before.before.before.before.before.before.before.before.before.before.before.before.before.before.before.requires.1.1 c.before.before.before.before.before.before.before.before.before.before.before.before.before.opener-at.ensures (not_false _ c.before.before.before.before.before.before.before.before.before.before.before.if1.false) 1 (ap flag_of c.before.before.before.before.before.before.before.before.before.before.if2.true) c.before.before.before.before.before.before.pieces.ensures
+  returns-2 c = heredoc_said c.before.before.before.before.before.before.before.before.before.before.before.before.before.before.before.before.before.before.args.s.now c.before.before.before.before.before.before.before.before.before.before.before.before.before.before.before.before.before.before.args.left c.before.before.before.before.before.before.before.before.before.before.before.before.before.before.before.before.before.before.args.lines c.before.before.before.before.before.before.before.before.before.before.before.before.before.before.before.before.before.before.args.p c.before.before.before.before.before.before.before.before.before.before.before.before.before.before.before.before.before.before.requires.1.1 c.before.before.before.before.before.before.before.before.before.before.before.before.before.opener-at.ensures (not-false _ c.before.before.before.before.before.before.before.before.before.before.before.if1.false) 1 (ap flag_of c.before.before.before.before.before.before.before.before.before.before.if2.true) c.before.before.before.before.before.before.pieces.ensures
 
   pieces-requires-2 : heredoc-lts.Need-pieces-requires-2 (calls t) (heredoc-at t) heredoc.Post
-  pieces-requires-2 c κs = (omega (arith, c.before.before.before.before.before.before.before.before.before.before.before.requires.0, c.before.before.before.before.before.before.opener-at.ensures, c.before.before.before.before.before.before.before.before.before.before.before.requires.1.0), (heredoc_asked c.before.before.before.before.before.before.before.before.before.before.before.args.s.now c.before.before.before.before.before.before.before.before.before.before.before.args.left c.before.before.before.before.before.before.before.before.before.before.before.args.lines c.before.before.before.before.before.before.before.before.before.before.before.args.p c.before.before.before.before.before.before.before.before.before.before.before.requires.1.1 c.before.before.before.before.before.before.opener-at.ensures c.before.before.before.before.before.before.before.before.before.before.before.requires.1.0, heredoc_texting c.before.before.before.before.before.before.before.before.before.before.before.args.s.now c.before.before.before.before.before.before.before.before.before.before.before.args.left c.before.before.before.before.before.before.before.before.before.before.before.args.lines c.before.before.before.before.before.before.before.before.before.before.before.args.p c.before.before.before.before.before.before.before.before.before.before.before.requires.1.1 c.before.before.before.before.before.before.opener-at.ensures (not_false _ c.before.before.before.before.if1.false) 0 (omega arith)))
+  pieces-requires-2 c κs = (omega (arith, c.before.before.before.before.before.before.before.before.before.before.before.requires.0, c.before.before.before.before.before.before.opener-at.ensures, c.before.before.before.before.before.before.before.before.before.before.before.requires.1.0), (heredoc_asked c.before.before.before.before.before.before.before.before.before.before.before.args.s.now c.before.before.before.before.before.before.before.before.before.before.before.args.left c.before.before.before.before.before.before.before.before.before.before.before.args.lines c.before.before.before.before.before.before.before.before.before.before.before.args.p c.before.before.before.before.before.before.before.before.before.before.before.requires.1.1 c.before.before.before.before.before.before.opener-at.ensures c.before.before.before.before.before.before.before.before.before.before.before.requires.1.0, heredoc_texting c.before.before.before.before.before.before.before.before.before.before.before.args.s.now c.before.before.before.before.before.before.before.before.before.before.before.args.left c.before.before.before.before.before.before.before.before.before.before.before.args.lines c.before.before.before.before.before.before.before.before.before.before.before.args.p c.before.before.before.before.before.before.before.before.before.before.before.requires.1.1 c.before.before.before.before.before.before.opener-at.ensures (not-false _ c.before.before.before.before.if1.false) 0 (omega arith)))
 
   returns-3 : heredoc-lts.Need-returns-3 (calls t) (heredoc-at t) heredoc.Post
-  returns-3 c = heredoc_said c.before.before.before.before.before.before.before.before.before.before.before.before.before.before.before.before.before.before.args.s.now c.before.before.before.before.before.before.before.before.before.before.before.before.before.before.before.before.before.before.args.left c.before.before.before.before.before.before.before.before.before.before.before.before.before.before.before.before.before.before.args.lines c.before.before.before.before.before.before.before.before.before.before.before.before.before.before.before.before.before.before.args.p c.before.before.before.before.before.before.before.before.before.before.before.before.before.before.before.before.before.before.requires.1.1 c.before.before.before.before.before.before.before.before.before.before.before.before.before.opener-at.ensures (not_false _ c.before.before.before.before.before.before.before.before.before.before.before.if1.false) 0 (ap flag_of c.before.before.before.before.before.before.before.before.before.before.if2.false) c.before.before.before.before.before.before.pieces2.ensures
+  returns-3 c = heredoc_said c.before.before.before.before.before.before.before.before.before.before.before.before.before.before.before.before.before.before.args.s.now c.before.before.before.before.before.before.before.before.before.before.before.before.before.before.before.before.before.before.args.left c.before.before.before.before.before.before.before.before.before.before.before.before.before.before.before.before.before.before.args.lines c.before.before.before.before.before.before.before.before.before.before.before.before.before.before.before.before.before.before.args.p c.before.before.before.before.before.before.before.before.before.before.before.before.before.before.before.before.before.before.requires.1.1 c.before.before.before.before.before.before.before.before.before.before.before.before.before.opener-at.ensures (not-false _ c.before.before.before.before.before.before.before.before.before.before.before.if1.false) 0 (ap flag_of c.before.before.before.before.before.before.before.before.before.before.if2.false) c.before.before.before.before.before.before.pieces2.ensures
 
   pub met : {M : Type 1} → heredoc-lts.Closed (calls t) (heredoc-at t) heredoc.Post M
   met = heredoc-lts.spec (calls t) (heredoc-at t) heredoc.Post

@@ -5,7 +5,7 @@ use native.Mathlib.Omega.{arith}
 use lib.ListN.{length}
 use Rattle.reader.specs.Said.{Asked, Kept, Laying}
 use Rattle.reader.proofs.Answers.{kept_same, kept_join}
-use borrow.Author.Tests.{not_true, not_false}
+use borrow.Author.Tests.{not-true, not-false}
 use Rattle.reader.proofs.Parts.{Parting, parting_start, parts_there, parts_gap, parts_cut, parts_else, parts_end, parts_closing, parts_no, parts_far, parts_more}
 use borrow.Author.Rules.{rules}
 use Rattle.reader.proofs.tree.part.Reads as part
@@ -69,7 +69,7 @@ module _ (t : ℕ) where
   same-length-9 c = omega (arith, c.before.before.before.before.before.before.before.before.loop.invariant.3.long)
 
   returns-3 : parts-lts.Need-returns-3 (calls t) (parts_at t) parts.Post Inv-loop μ-loop
-  returns-3 c = parts_else c.before.before.before.before.before.before.before.before.loop.invariant.2 c.before.before.before.before.before.before.before.space.ensures c.before.before.before.before.before.if1.false (sym c.before.before.before.before.is_part_lem.ensures ∙ not_true _ c.before.before.before.if3.true) c.before.before.if4.true c.before.unexpected.ensures c.refuse2.ensures c.before.before.before.before.before.before.before.before.loop.invariant.3
+  returns-3 c = parts_else c.before.before.before.before.before.before.before.before.loop.invariant.2 c.before.before.before.before.before.before.before.space.ensures c.before.before.before.before.before.if1.false (sym c.before.before.before.before.is_part_lem.ensures ∙ not-true _ c.before.before.before.if3.true) c.before.before.if4.true c.before.unexpected.ensures c.refuse2.ensures c.before.before.before.before.before.before.before.before.loop.invariant.3
 
   close-requires-2 : parts-lts.Need-close-requires-2 (calls t) (parts_at t) parts.Post Inv-loop μ-loop
   close-requires-2 c κs = parts_closing c.before.before.before.before.before.before.before.loop.invariant.2 c.before.if4.false c.before.before.before.before.before.before.before.loop.invariant.0 c.before.before.before.before.before.before.before.loop.invariant.1
@@ -84,7 +84,7 @@ module _ (t : ℕ) where
   same-length-12 c = omega (arith, c.before.before.before.before.before.before.before.before.before.before.loop.invariant.3.long)
 
   returns-4 : parts-lts.Need-returns-4 (calls t) (parts_at t) parts.Post Inv-loop μ-loop
-  returns-4 c = parts_end c.before.before.before.before.before.before.before.before.before.before.loop.invariant.2 c.before.before.before.before.before.before.before.before.before.space.ensures c.before.before.before.before.before.before.before.if1.false (sym c.before.before.before.before.before.before.is_part_lem.ensures ∙ not_true _ c.before.before.before.before.before.if3.true) c.before.before.before.before.if4.false c.before.before.close2.ensures c.before.before.before.before.before.before.before.before.before.before.loop.invariant.3
+  returns-4 c = parts_end c.before.before.before.before.before.before.before.before.before.before.loop.invariant.2 c.before.before.before.before.before.before.before.before.before.space.ensures c.before.before.before.before.before.before.before.if1.false (sym c.before.before.before.before.before.before.is_part_lem.ensures ∙ not-true _ c.before.before.before.before.before.if3.true) c.before.before.before.before.if4.false c.before.before.close2.ensures c.before.before.before.before.before.before.before.before.before.before.loop.invariant.3
 
   add-part : parts-lts.Need-overflow-add-part (calls t) (parts_at t) parts.Post Inv-loop μ-loop
   add-part c = omega (arith, c.before.before.before.before.before.before.before.before.loop.invariant.0, c.before.before.before.before.before.before.before.before.loop.invariant.2.low, c.before.before.before.before.before.before.before.before.loop.invariant.2.high)
@@ -105,7 +105,7 @@ module _ (t : ℕ) where
   same-length-15 c = omega (arith, c.before.before.before.before.before.before.before.before.part.auto.1.1.1.0, c.before.before.before.before.before.before.before.before.before.before.before.before.before.before.before.before.before.loop.invariant.3.long)
 
   returns-5 : parts-lts.Need-returns-5 (calls t) (parts_at t) parts.Post Inv-loop μ-loop
-  returns-5 c = parts_no c.before.before.before.before.before.before.before.before.before.before.before.before.before.before.before.before.before.loop.invariant.2 c.before.before.before.before.before.before.before.before.before.before.before.before.before.before.before.before.space.ensures c.before.before.before.before.before.before.before.before.before.before.before.before.before.before.if1.false (sym c.before.before.before.before.before.before.before.before.before.before.before.before.before.is_part_lem.ensures ∙ not_false _ c.before.before.before.before.before.before.before.before.before.before.before.before.if3.false) c.before.before.before.before.before.before.before.before.part.ensures c.if5.true (kept_join c.before.before.before.before.before.before.before.before.before.before.before.before.before.before.before.before.before.loop.invariant.3 c.before.before.before.before.before.before.before.before.part.ensures.said.kept)
+  returns-5 c = parts_no c.before.before.before.before.before.before.before.before.before.before.before.before.before.before.before.before.before.loop.invariant.2 c.before.before.before.before.before.before.before.before.before.before.before.before.before.before.before.before.space.ensures c.before.before.before.before.before.before.before.before.before.before.before.before.before.before.if1.false (sym c.before.before.before.before.before.before.before.before.before.before.before.before.before.is_part_lem.ensures ∙ not-false _ c.before.before.before.before.before.before.before.before.before.before.before.before.if3.false) c.before.before.before.before.before.before.before.before.part.ensures c.if5.true (kept_join c.before.before.before.before.before.before.before.before.before.before.before.before.before.before.before.before.before.loop.invariant.3 c.before.before.before.before.before.before.before.before.part.ensures.said.kept)
 
   add-n : parts-lts.Need-overflow-add-n (calls t) (parts_at t) parts.Post Inv-loop μ-loop
   add-n c = omega (arith, c.before.before.before.before.before.before.before.before.before.before.before.before.before.before.before.before.before.before.loop.invariant.0, c.before.before.before.before.before.before.before.before.before.before.before.before.before.before.before.before.before.before.loop.invariant.2.low, c.before.before.before.before.before.before.before.before.before.before.before.before.before.before.before.before.before.space.ensures.low, c.before.before.before.before.before.before.before.before.before.part.ensures.said.room, c.before.before.before.before.before.before.before.before.before.part.ensures.said.high)
@@ -114,10 +114,10 @@ module _ (t : ℕ) where
   add-t c = omega (arith, c.before.before.before.before.before.before.before.before.before.before.before.before.before.before.before.before.before.before.before.loop.invariant.0, c.before.before.before.before.before.before.before.before.before.before.before.before.before.before.before.before.before.before.before.loop.invariant.2.spent, c.before.before.before.before.before.before.before.before.before.before.before.before.before.before.before.before.before.before.space.ensures.low, c.before.before.before.before.before.before.before.before.before.before.part.ensures.said.spent, c.before.before.before.before.before.before.before.before.before.before.part.ensures.said.high)
 
   loop-less : parts-lts.Need-loop-smaller (calls t) (parts_at t) parts.Post Inv-loop μ-loop
-  loop-less c = omega (arith, parts_far c.before.before.before.before.before.before.before.before.before.before.before.before.before.before.before.before.before.before.before.loop.invariant.2 c.before.before.before.before.before.before.before.before.before.before.before.before.before.before.before.before.before.before.space.ensures c.before.before.before.before.before.before.before.before.before.before.before.before.before.before.before.before.if1.false (sym c.before.before.before.before.before.before.before.before.before.before.before.before.before.before.before.is_part_lem.ensures ∙ not_false _ c.before.before.before.before.before.before.before.before.before.before.before.before.before.before.if3.false) c.before.before.before.before.before.before.before.before.before.before.part.ensures c.before.before.if5.false, c.before.before.before.before.before.before.before.before.before.before.part.ensures.said.high)
+  loop-less c = omega (arith, parts_far c.before.before.before.before.before.before.before.before.before.before.before.before.before.before.before.before.before.before.before.loop.invariant.2 c.before.before.before.before.before.before.before.before.before.before.before.before.before.before.before.before.before.before.space.ensures c.before.before.before.before.before.before.before.before.before.before.before.before.before.before.before.before.if1.false (sym c.before.before.before.before.before.before.before.before.before.before.before.before.before.before.before.is_part_lem.ensures ∙ not-false _ c.before.before.before.before.before.before.before.before.before.before.before.before.before.before.if3.false) c.before.before.before.before.before.before.before.before.before.before.part.ensures c.before.before.if5.false, c.before.before.before.before.before.before.before.before.before.before.part.ensures.said.high)
 
   loop-again : parts-lts.Need-loop-preserved (calls t) (parts_at t) parts.Post Inv-loop μ-loop
-  loop-again c = (c.before.before.before.before.before.before.before.before.before.before.before.before.before.before.before.before.before.before.before.loop.invariant.0, c.before.before.before.before.before.before.before.before.before.before.before.before.before.before.before.before.before.before.before.loop.invariant.1, parts_more c.before.before.before.before.before.before.before.before.before.before.before.before.before.before.before.before.before.before.before.loop.invariant.2 c.before.before.before.before.before.before.before.before.before.before.before.before.before.before.before.before.before.before.space.ensures c.before.before.before.before.before.before.before.before.before.before.before.before.before.before.before.before.if1.false (sym c.before.before.before.before.before.before.before.before.before.before.before.before.before.before.before.is_part_lem.ensures ∙ not_false _ c.before.before.before.before.before.before.before.before.before.before.before.before.before.before.if3.false) c.before.before.before.before.before.before.before.before.before.before.part.ensures c.before.before.if5.false, kept_join c.before.before.before.before.before.before.before.before.before.before.before.before.before.before.before.before.before.before.before.loop.invariant.3 c.before.before.before.before.before.before.before.before.before.before.part.ensures.said.kept, (c.before.before.before.before.before.before.before.before.before.before.part.auto.1.0 ∙ c.before.before.before.before.before.before.before.before.before.before.before.before.before.before.before.before.before.before.before.loop.invariant.4), (c.before.before.before.before.before.before.before.before.before.before.part.auto.1.1.0 ∙ c.before.before.before.before.before.before.before.before.before.before.before.before.before.before.before.before.before.before.before.loop.invariant.5))
+  loop-again c = (c.before.before.before.before.before.before.before.before.before.before.before.before.before.before.before.before.before.before.before.loop.invariant.0, c.before.before.before.before.before.before.before.before.before.before.before.before.before.before.before.before.before.before.before.loop.invariant.1, parts_more c.before.before.before.before.before.before.before.before.before.before.before.before.before.before.before.before.before.before.before.loop.invariant.2 c.before.before.before.before.before.before.before.before.before.before.before.before.before.before.before.before.before.before.space.ensures c.before.before.before.before.before.before.before.before.before.before.before.before.before.before.before.before.if1.false (sym c.before.before.before.before.before.before.before.before.before.before.before.before.before.before.before.is_part_lem.ensures ∙ not-false _ c.before.before.before.before.before.before.before.before.before.before.before.before.before.before.if3.false) c.before.before.before.before.before.before.before.before.before.before.part.ensures c.before.before.if5.false, kept_join c.before.before.before.before.before.before.before.before.before.before.before.before.before.before.before.before.before.before.before.loop.invariant.3 c.before.before.before.before.before.before.before.before.before.before.part.ensures.said.kept, (c.before.before.before.before.before.before.before.before.before.before.part.auto.1.0 ∙ c.before.before.before.before.before.before.before.before.before.before.before.before.before.before.before.before.before.before.before.loop.invariant.4), (c.before.before.before.before.before.before.before.before.before.before.part.auto.1.1.0 ∙ c.before.before.before.before.before.before.before.before.before.before.before.before.before.before.before.before.before.before.before.loop.invariant.5))
 
   pub met : {M : Type 1} → parts-lts.Closed (calls t) (parts_at t) parts.Post M
   met = parts-lts.spec (calls t) (parts_at t) parts.Post

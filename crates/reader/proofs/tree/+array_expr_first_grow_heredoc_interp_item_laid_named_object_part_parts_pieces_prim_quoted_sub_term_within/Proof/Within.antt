@@ -4,7 +4,7 @@ use mathlib.Core.Path.{◌≡◌, refl, sym, subst, ◌∙◌}
 use native.Mathlib.Omega.{arith}
 use lib.ListN.{length}
 use Rattle.reader.proofs.Answers.{kept_same}
-use borrow.Author.Tests.{not_true, not_false}
+use borrow.Author.Tests.{not-true, not-false}
 use Rattle.reader.proofs.Withins.{within_there, within_high, within_closing, within_deep, within_gap, within_no, within_open, within_else, within_ok}
 use borrow.Author.Rules.{rules}
 use Rattle.reader.proofs.tree.expr.Reads as expr
@@ -84,13 +84,13 @@ module _ (t : ℕ) where
   same-length-9 c = omega (arith, c.before.before.before.before.before.before.before.before.before.before.before.before.before.before.before.expr.auto.1.1.1.0)
 
   returns-5 : within-lts.Need-returns-5 (calls t) (within-at t) within.Post
-  returns-5 c = within_else c.before.before.before.before.before.before.before.before.before.before.before.before.before.before.before.before.before.before.before.before.before.before.before.before.before.before.before.requires.1.1 c.before.before.before.before.before.before.before.before.before.before.before.before.before.before.before.before.before.before.before.before.before.before.before.before.before.before.before.requires.1.0 c.before.before.before.before.before.before.before.before.before.before.before.before.before.before.before.before.before.before.before.before.before.before.if1.false c.before.before.before.before.before.before.before.before.before.before.before.before.before.before.before.before.before.before.before.before.before.space.ensures c.before.before.before.before.before.before.before.before.before.before.before.before.before.before.before.before.before.before.before.if2.false c.before.before.before.before.before.before.before.before.before.before.before.before.before.before.before.expr.ensures c.before.before.before.before.before.before.before.if3.false c.before.before.before.before.before.before.space2.ensures c.before.before.before.before.if4.false (sym c.before.before.before.one_at.ensures ∙ not_true _ c.before.before.if5.true) c.before.unexpected.ensures c.refuse4.ensures c.before.before.before.before.before.before.before.before.before.before.before.before.before.before.before.expr.ensures.kept
+  returns-5 c = within_else c.before.before.before.before.before.before.before.before.before.before.before.before.before.before.before.before.before.before.before.before.before.before.before.before.before.before.before.requires.1.1 c.before.before.before.before.before.before.before.before.before.before.before.before.before.before.before.before.before.before.before.before.before.before.before.before.before.before.before.requires.1.0 c.before.before.before.before.before.before.before.before.before.before.before.before.before.before.before.before.before.before.before.before.before.before.if1.false c.before.before.before.before.before.before.before.before.before.before.before.before.before.before.before.before.before.before.before.before.before.space.ensures c.before.before.before.before.before.before.before.before.before.before.before.before.before.before.before.before.before.before.before.if2.false c.before.before.before.before.before.before.before.before.before.before.before.before.before.before.before.expr.ensures c.before.before.before.before.before.before.before.if3.false c.before.before.before.before.before.before.space2.ensures c.before.before.before.before.if4.false (sym c.before.before.before.one_at.ensures ∙ not-true _ c.before.before.if5.true) c.before.unexpected.ensures c.refuse4.ensures c.before.before.before.before.before.before.before.before.before.before.before.before.before.before.before.expr.ensures.kept
 
   add-close : within-lts.Need-overflow-add-close (calls t) (within-at t) within.Post
-  add-close c = omega (arith, within_high c.before.before.before.before.before.before.before.before.before.before.before.before.before.before.before.before.before.before.before.before.before.before.before.before.before.before.before.requires.1.1 c.before.before.before.before.before.before.before.before.before.before.before.before.before.before.before.before.before.before.before.before.before.space.ensures c.before.before.before.before.before.before.before.before.before.before.before.before.before.before.before.expr.ensures c.before.before.before.before.before.before.space2.ensures (sym c.before.before.before.one_at.ensures ∙ not_false _ c.before.before.if5.false), c.before.before.before.before.before.before.before.before.before.before.before.before.before.before.before.before.before.before.before.before.before.before.before.before.before.before.before.requires.1.0.small)
+  add-close c = omega (arith, within_high c.before.before.before.before.before.before.before.before.before.before.before.before.before.before.before.before.before.before.before.before.before.before.before.before.before.before.before.requires.1.1 c.before.before.before.before.before.before.before.before.before.before.before.before.before.before.before.before.before.before.before.before.before.space.ensures c.before.before.before.before.before.before.before.before.before.before.before.before.before.before.before.expr.ensures c.before.before.before.before.before.before.space2.ensures (sym c.before.before.before.one_at.ensures ∙ not-false _ c.before.before.if5.false), c.before.before.before.before.before.before.before.before.before.before.before.before.before.before.before.before.before.before.before.before.before.before.before.before.before.before.before.requires.1.0.small)
 
   close-requires : within-lts.Need-close-requires (calls t) (within-at t) within.Post
-  close-requires c κs = within_closing c.before.before.before.before.before.before.before.before.before.before.before.before.before.before.before.before.before.before.before.before.before.before.before.before.before.before.before.requires.1.1 c.before.before.before.before.before.before.before.before.before.before.before.before.before.before.before.before.before.before.before.before.before.space.ensures c.before.before.before.before.before.before.before.before.before.before.before.before.before.before.before.expr.ensures c.before.before.before.before.before.before.space2.ensures (sym c.before.before.before.one_at.ensures ∙ not_false _ c.before.before.if5.false) c.before.before.before.before.before.before.before.before.before.before.before.before.before.before.before.before.before.before.before.before.before.before.before.before.before.before.before.requires.1.0
+  close-requires c κs = within_closing c.before.before.before.before.before.before.before.before.before.before.before.before.before.before.before.before.before.before.before.before.before.before.before.before.before.before.before.requires.1.1 c.before.before.before.before.before.before.before.before.before.before.before.before.before.before.before.before.before.before.before.before.before.space.ensures c.before.before.before.before.before.before.before.before.before.before.before.before.before.before.before.expr.ensures c.before.before.before.before.before.before.space2.ensures (sym c.before.before.before.one_at.ensures ∙ not-false _ c.before.before.if5.false) c.before.before.before.before.before.before.before.before.before.before.before.before.before.before.before.before.before.before.before.before.before.before.before.before.before.before.before.requires.1.0
 
   same-length-10 : within-lts.Need-same-length-10 (calls t) (within-at t) within.Post
   same-length-10 c = omega (arith, c.before.before.close.auto.0, c.before.before.before.before.before.before.before.before.before.before.before.before.before.before.before.before.before.before.expr.auto.1.0)
@@ -102,7 +102,7 @@ module _ (t : ℕ) where
   same-length-12 c = omega (arith, c.before.before.before.before.before.before.before.before.before.before.before.before.before.before.before.before.before.before.expr.auto.1.1.1.0)
 
   returns-6 : within-lts.Need-returns-6 (calls t) (within-at t) within.Post
-  returns-6 c = within_ok c.before.before.before.before.before.before.before.before.before.before.before.before.before.before.before.before.before.before.before.before.before.before.before.before.before.before.before.before.before.before.requires.1.1 c.before.before.before.before.before.before.before.before.before.before.before.before.before.before.before.before.before.before.before.before.before.before.before.before.before.before.before.before.before.before.requires.1.0 c.before.before.before.before.before.before.before.before.before.before.before.before.before.before.before.before.before.before.before.before.before.before.before.before.before.if1.false c.before.before.before.before.before.before.before.before.before.before.before.before.before.before.before.before.before.before.before.before.before.before.before.before.space.ensures c.before.before.before.before.before.before.before.before.before.before.before.before.before.before.before.before.before.before.before.before.before.before.if2.false c.before.before.before.before.before.before.before.before.before.before.before.before.before.before.before.before.before.before.expr.ensures c.before.before.before.before.before.before.before.before.before.before.if3.false c.before.before.before.before.before.before.before.before.before.space2.ensures c.before.before.before.before.before.before.before.if4.false (sym c.before.before.before.before.before.before.one_at.ensures ∙ not_false _ c.before.before.before.before.before.if5.false) c.before.before.close.ensures c.before.before.before.before.before.before.before.before.before.before.before.before.before.before.before.before.before.before.expr.ensures.kept
+  returns-6 c = within_ok c.before.before.before.before.before.before.before.before.before.before.before.before.before.before.before.before.before.before.before.before.before.before.before.before.before.before.before.before.before.before.requires.1.1 c.before.before.before.before.before.before.before.before.before.before.before.before.before.before.before.before.before.before.before.before.before.before.before.before.before.before.before.before.before.before.requires.1.0 c.before.before.before.before.before.before.before.before.before.before.before.before.before.before.before.before.before.before.before.before.before.before.before.before.before.if1.false c.before.before.before.before.before.before.before.before.before.before.before.before.before.before.before.before.before.before.before.before.before.before.before.before.space.ensures c.before.before.before.before.before.before.before.before.before.before.before.before.before.before.before.before.before.before.before.before.before.before.if2.false c.before.before.before.before.before.before.before.before.before.before.before.before.before.before.before.before.before.before.expr.ensures c.before.before.before.before.before.before.before.before.before.before.if3.false c.before.before.before.before.before.before.before.before.before.space2.ensures c.before.before.before.before.before.before.before.if4.false (sym c.before.before.before.before.before.before.one_at.ensures ∙ not-false _ c.before.before.before.before.before.if5.false) c.before.before.close.ensures c.before.before.before.before.before.before.before.before.before.before.before.before.before.before.before.before.before.before.expr.ensures.kept
 
   pub met : {M : Type 1} → within-lts.Closed (calls t) (within-at t) within.Post M
   met = within-lts.spec (calls t) (within-at t) within.Post

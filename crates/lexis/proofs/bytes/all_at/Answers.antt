@@ -1,0 +1,32 @@
+-- The loop keeps that what is left of w stands behind what was passed.
+use Prim.Native.Nat.{◌≤◌, ◌+◌, ◌-◌}
+use Rattle.lexis.specs.RunLaws.{stands_inside}
+use Rattle.lexis.proofs.Runs.{all_start, all_more, all_end, all_fails}
+use Rattle.lexis.specs.Bytes.{stands}
+use borrow.Author.Rules.{rules}
+use borrow.Author.Tests.{not-true, not-false}
+use lib.ListN.{get_or}
+use lib.ListN.{length, drop}
+use mathlib.Core.List.{[], ◌∷◌}
+use mathlib.Core.Path.{◌≡◌, sym, ◌∙◌}
+use native.Mathlib.Omega.{arith}
+use Rattle.lexis.proofs.bytes.all_at.Goals as goal
+
+pub loop-i-init : goal.loop-i-init
+loop-i-init c = let a = c.args in
+    (omega arith, omega arith, all_start a.w.now a.s.now a.p)
+
+pub overflow_add-p : goal.overflow_add-p
+overflow_add-p c = omega arith
+
+pub returns-then-not-one_at : goal.returns-then-not-one_at
+returns-then-not-one_at c = let a = c.args in
+    sym (all_fails a.w.now a.s.now a.p c.loop-i.i c.loop-i-test.true (c.shared_slice_known-in-loop-i-1.given c.loop-i.i).fits (sym c.one_at.ensures ∙ not-true _ c.if-not-one_at.true-raw) c.loop-i.invariant.2)
+
+pub loop-i-preserved : goal.loop-i-preserved
+loop-i-preserved c = let a = c.args in
+    (omega arith, omega (arith, stands_inside (get_or a.w.now c.loop-i.i 0 ∷ []) a.s.now (a.p + c.loop-i.i) (sym c.one_at.ensures ∙ not-false _ c.if-not-one_at.false-raw)), all_more a.w.now a.s.now a.p c.loop-i.i c.loop-i-test.true (c.shared_slice_known-in-loop-i-1.given c.loop-i.i).fits (sym c.one_at.ensures ∙ not-false _ c.if-not-one_at.false-raw) ∙ c.loop-i.invariant.2)
+
+pub returns : goal.returns
+returns c = let a = c.args in
+    sym (all_end a.w.now a.s.now a.p c.loop-i.i c.loop-i-test.false c.loop-i.invariant.2)

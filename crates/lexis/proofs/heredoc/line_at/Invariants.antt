@@ -1,0 +1,15 @@
+use Prim.Native.Nat.{◌+◌, ◌-◌, ◌<◌, min}
+use mathlib.Core.Path.{◌≡◌, refl, sym, ◌∙◌}
+use native.Mathlib.Omega.{arith}
+use lib.ListN.{length, drop}
+use Rattle.lexis.specs.Bytes.{begins, byte_at}
+use Rattle.lexis.specs.Heredoc.{part}
+use Rattle.lexis.proofs.Lines.{byte_small, part_hit, part_miss, part_long, line_text, delimited, ends_text, ends_foreign, ends_closes}
+use borrow.Author.Rules.{rules}
+use Rattle.lexis.proofs.heredoc.line_at.Given as goal
+
+abbrev pub invariant-loop-k : goal.invariant-loop-k
+invariant-loop-k l = (begins (part l.s l.k l.e) (drop l.j l.s) ≡ begins (part l.s l.d l.e) (drop l.initial.j l.s)) × (l.j + length (part l.s l.k l.e) ≡ l.initial.j + length (part l.s l.d l.e))
+
+abbrev pub decreases-loop-k : goal.decreases-loop-k
+decreases-loop-k l = l.to - l.k

@@ -1,0 +1,21 @@
+use Rattle.lexis.proofs.Numbers.{no_digit, a_digit, no_number, number_is}
+use borrow.Author.Rules.{rules}
+use mathlib.Core.Path.{sym}
+use native.Mathlib.Omega.{arith}
+use Rattle.lexis.proofs.number.number_end.Goals as goal
+
+pub returns-then-d-p : goal.returns-then-d-p
+returns-then-d-p c = let a = c.args in
+    record {
+      is = sym (no_number a.s.now a.p (no_digit a.s.now a.p c.digits_end-d.ensures c.if-d-p.true));
+      low = omega arith;
+      high = omega arith;
+    }
+
+pub returns : goal.returns
+returns c = let a = c.args in
+    record {
+      is = number_is a.s.now a.p (a_digit a.s.now a.p c.digits_end-d.ensures c.if-d-p.false) c.digits_end-d.ensures.is c.fraction_end-f.ensures.is c.exponent_end.ensures.is;
+      low = omega arith;
+      high = omega arith;
+    }

@@ -1,0 +1,12 @@
+use Prim.Native.Nat.{◌-◌}
+use native.Mathlib.Omega.{arith}
+use Rattle.lexis.specs.String.{mode_of, text_at}
+use Rattle.lexis.proofs.Writes.{Writing, write_start, write_more, write_end, write_none, ahead_of, turn, run_ends, run_counts}
+use borrow.Author.Rules.{rules}
+use Rattle.lexis.proofs.string.write.Given as goal
+
+abbrev pub invariant-loop-i : goal.invariant-loop-i
+invariant-loop-i l = Writing (mode_of l.s l.quoted l.d l.e) l.s l.p l.at l.initial.buf l.buf l.i l.j
+
+abbrev pub decreases-loop-i : goal.decreases-loop-i
+decreases-loop-i l = l.end - l.i

@@ -1,0 +1,16 @@
+use Prim.Native.Nat.{◌≤◌, ◌+◌, ◌-◌}
+use Rattle.lexis.specs.RunLaws.{reach, reach_on, reach_stop}
+use Rattle.lexis.proofs.Trivias.{closes_here, closes_not, closes_half, closes_late, block_found, block_endless}
+use Rattle.lexis.specs.Trivia.{closes, ends_at}
+use borrow.Author.Rules.{rules}
+use lib.ListN.{length}
+use mathlib.Core.Logic.{⊎_elim}
+use mathlib.Core.Path.{◌≡◌, refl, sym, ap, ◌∙◌}
+use native.Mathlib.Omega.{arith}
+use Rattle.lexis.proofs.trivia.block_comment.Given as goal
+
+abbrev pub invariant-loop-i : goal.invariant-loop-i
+invariant-loop-i l = (l.p + 3 ≤ l.i) × (l.i ≤ length l.s + 1) × (reach closes l.s (l.i - 1) ≡ reach closes l.s (l.p + 2))
+
+abbrev pub decreases-loop-i : goal.decreases-loop-i
+decreases-loop-i l = length l.s - l.i

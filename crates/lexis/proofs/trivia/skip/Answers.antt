@@ -1,0 +1,54 @@
+-- The loop keeps the place at which trivia ends.
+use Prim.Native.Nat.{◌≤◌, ◌+◌, ◌-◌}
+use Rattle.lexis.specs.RunLaws.{here}
+use Rattle.lexis.proofs.Trivias.{gap_stop, gap_on, gap_space, gap_other, gapped}
+use Rattle.lexis.specs.Trivia.{opens_comment, gap_to}
+use borrow.Author.Rules.{rules}
+use borrow.Author.Tests.{not-true}
+use lib.ListN.{length}
+use mathlib.Core.Path.{◌≡◌, refl, sym, ap, ◌∙◌}
+use native.Mathlib.Omega.{arith}
+use Rattle.lexis.proofs.trivia.skip.Goals as goal
+
+pub loop-i-init : goal.loop-i-init
+loop-i-init c = (omega arith, omega arith, refl)
+
+-- past a space
+pub overflow_add-i : goal.overflow_add-i
+overflow_add-i c = omega (arith, here c.args.s.now c.loop-i.i, c.byte_at-b.ensures.is, c.if-b-eq32.true)
+
+pub loop-i-smaller-then-b-eq32 : goal.loop-i-smaller-then-b-eq32
+loop-i-smaller-then-b-eq32 c = omega (arith, here c.args.s.now c.loop-i.i, c.byte_at-b.ensures.is, c.if-b-eq32.true)
+
+pub loop-i-preserved-then-b-eq32 : goal.loop-i-preserved-then-b-eq32
+loop-i-preserved-then-b-eq32 c = (
+  omega arith,
+  omega (arith, here c.args.s.now c.loop-i.i, c.byte_at-b.ensures.is, c.if-b-eq32.true),
+  gap_space c.args.lines c.args.s.now c.loop-i.i (sym c.byte_at-b.ensures.is ∙ c.if-b-eq32.true) ∙ c.loop-i.invariant.2,
+)
+
+-- a byte that starts no trivia
+pub returns-then-not-opens : goal.returns-then-not-opens
+returns-then-not-opens c = gapped _ (gap_other c.args.lines c.args.s.now c.loop-i.i (omega (arith, c.if-b-gt32.true, c.byte_at-b.ensures.is)) (ap opens_comment (sym c.byte_at-b.ensures.is) ∙ sym c.opens.ensures ∙ not-true _ c.if-not-opens.true-raw) ∙ c.loop-i.invariant.2)
+
+-- what may be a comment
+pub returns-then-c-i : goal.returns-then-c-i
+returns-then-c-i c = gapped _ (gap_stop _ _ _ c.item_at-c.ensures.is c.if-c-i.true ∙ c.loop-i.invariant.2)
+
+pub loop-i-smaller-then-b-gt32 : goal.loop-i-smaller-then-b-gt32
+loop-i-smaller-then-b-gt32 c = omega (arith, c.item_at-c.ensures.low, c.item_at-c.ensures.high, c.if-c-i.false)
+
+pub loop-i-preserved-then-b-gt32 : goal.loop-i-preserved-then-b-gt32
+loop-i-preserved-then-b-gt32 c =
+    (omega arith, omega arith, gap_on c.args.lines c.args.s.now c.loop-i.i c.item_at-c.ensures.is c.if-c-i.false c.item_at-c.ensures.low c.item_at-c.ensures.high ∙ c.loop-i.invariant.2)
+
+-- a tab, or what may be a line ending
+pub returns-then-g-i : goal.returns-then-g-i
+returns-then-g-i c = gapped _ (gap_stop _ _ _ c.item_at-g.ensures.is c.if-g-i.true ∙ c.loop-i.invariant.2)
+
+pub loop-i-smaller : goal.loop-i-smaller
+loop-i-smaller c = omega (arith, c.item_at-g.ensures.low, c.item_at-g.ensures.high, c.if-g-i.false)
+
+pub loop-i-preserved : goal.loop-i-preserved
+loop-i-preserved c =
+    (omega arith, omega arith, gap_on c.args.lines c.args.s.now c.loop-i.i c.item_at-g.ensures.is c.if-g-i.false c.item_at-g.ensures.low c.item_at-g.ensures.high ∙ c.loop-i.invariant.2)

@@ -1,0 +1,16 @@
+use Prim.Native.Nat.{◌≤◌, ◌+◌, ◌-◌}
+use Rattle.lexis.specs.RunLaws.{here}
+use Rattle.lexis.proofs.Trivias.{gap_stop, gap_on, gap_space, gap_other, gapped}
+use Rattle.lexis.specs.Trivia.{opens_comment, gap_to}
+use borrow.Author.Rules.{rules}
+use borrow.Author.Tests.{not-true}
+use lib.ListN.{length}
+use mathlib.Core.Path.{◌≡◌, refl, sym, ap, ◌∙◌}
+use native.Mathlib.Omega.{arith}
+use Rattle.lexis.proofs.trivia.skip.Given as goal
+
+abbrev pub invariant-loop-i : goal.invariant-loop-i
+invariant-loop-i l = (l.p ≤ l.i) × (l.i ≤ l.p + (length l.s - l.p)) × (gap_to l.lines l.s l.i ≡ gap_to l.lines l.s l.p)
+
+abbrev pub decreases-loop-i : goal.decreases-loop-i
+decreases-loop-i l = length l.s - l.i

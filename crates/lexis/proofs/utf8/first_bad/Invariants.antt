@@ -1,0 +1,21 @@
+use Prim.Native.Nat.{◌+◌, ◌-◌, ◌≤◌}
+use mathlib.Core.Path.{◌≡◌, ◌∙◌, sym}
+use native.Mathlib.Omega.{arith}
+use lib.ListN.{drop, length}
+use Rattle.lexis.specs.Utf8.{first_bad}
+use Rattle.lexis.proofs.Blocks.{block_inside, block_on}
+use Rattle.lexis.proofs.Sequences.{good_on, good_stop}
+use borrow.Author.Rules.{rules}
+use Rattle.lexis.proofs.utf8.first_bad.Given as goal
+
+abbrev pub invariant-loop-n : goal.invariant-loop-n
+invariant-loop-n l = (l.n ≤ 64) × (l.initial.i + l.n ≤ l.i) × (l.i ≤ length l.s) × (l.i + first_bad (drop l.i l.s) ≡ first_bad l.s)
+
+abbrev pub decreases-loop-n : goal.decreases-loop-n
+decreases-loop-n l = 64 - l.n
+
+abbrev pub invariant-loop-i : goal.invariant-loop-i
+invariant-loop-i l = (l.i ≤ length l.s) × (l.i + first_bad (drop l.i l.s) ≡ first_bad l.s)
+
+abbrev pub decreases-loop-i : goal.decreases-loop-i
+decreases-loop-i l = length l.s - l.i
