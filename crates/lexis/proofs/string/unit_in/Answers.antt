@@ -19,10 +19,10 @@ pub returns-then-not-fresh : goal.returns-then-not-fresh
 returns-then-not-fresh c = same_here (in_text c.args.s.now c.args.p c.args.quoted c.args.fresh c.args.d c.args.e c.if-s-p.false c.if-quoted.false (not-true _ c.if-not-fresh.true-raw)) c.unit_at-then-not-fresh.ensures
 
 pub returns-in-Text : goal.returns-in-Text
-returns-in-Text c = same_here (in_line c.args.s.now c.args.p c.args.quoted c.args.fresh c.args.d c.args.e c.if-s-p.false c.if-quoted.false (not-false _ c.if-not-fresh.false-raw) c.line_at.result c.line_at.ensures ∙ ap (λ (x : Line). line_or x (unit false (drop c.args.p c.args.s.now))) c.enum_told-1.given.1) c.unit_at-in-Text.ensures
+returns-in-Text c = same_here (in_line c.args.s.now c.args.p c.args.quoted c.args.fresh c.args.d c.args.e c.if-s-p.false c.if-quoted.false (not-false _ c.if-not-fresh.false-raw) c.line_at.result c.line_at.ensures ∙ ap (λ (x : Line). line_or x (unit false (drop c.args.p c.args.s.now))) c.in-Text.is) c.unit_at-in-Text.ensures
 
 pub returns-in-Closes : goal.returns-in-Closes
-returns-in-Closes c = unit_here c.args.s.now (unit_in (mode_of c.args.s.now c.args.quoted c.args.d c.args.e) c.args.fresh (drop c.args.p c.args.s.now)) c.args.p _ (in_sound (mode_of c.args.s.now c.args.quoted c.args.d c.args.e) c.args.fresh (drop c.args.p c.args.s.now)) (c.stop-in-Closes.ensures ∙ ap piece_of (sym (in_line c.args.s.now c.args.p c.args.quoted c.args.fresh c.args.d c.args.e c.if-s-p.false c.if-quoted.false (not-false _ c.if-not-fresh.false-raw) c.line_at.result c.line_at.ensures ∙ ap (λ (x : Line). line_or x (unit false (drop c.args.p c.args.s.now))) c.enum_told-in-Closes-1.given.1)))
+returns-in-Closes c = unit_here c.args.s.now (unit_in (mode_of c.args.s.now c.args.quoted c.args.d c.args.e) c.args.fresh (drop c.args.p c.args.s.now)) c.args.p _ (in_sound (mode_of c.args.s.now c.args.quoted c.args.d c.args.e) c.args.fresh (drop c.args.p c.args.s.now)) (c.stop-in-Closes.ensures ∙ ap piece_of (sym (in_line c.args.s.now c.args.p c.args.quoted c.args.fresh c.args.d c.args.e c.if-s-p.false c.if-quoted.false (not-false _ c.if-not-fresh.false-raw) c.line_at.result c.line_at.ensures ∙ ap (λ (x : Line). line_or x (unit false (drop c.args.p c.args.s.now))) c.in-Closes.is)))
 
 pub returns-in-Foreign : goal.returns-in-Foreign
-returns-in-Foreign c = unit_here c.args.s.now (unit_in (mode_of c.args.s.now c.args.quoted c.args.d c.args.e) c.args.fresh (drop c.args.p c.args.s.now)) c.args.p _ (in_sound (mode_of c.args.s.now c.args.quoted c.args.d c.args.e) c.args.fresh (drop c.args.p c.args.s.now)) (c.stop-in-Foreign.ensures ∙ ap piece_of (sym (in_line c.args.s.now c.args.p c.args.quoted c.args.fresh c.args.d c.args.e c.if-s-p.false c.if-quoted.false (not-false _ c.if-not-fresh.false-raw) c.line_at.result c.line_at.ensures ∙ ap (λ (x : Line). line_or x (unit false (drop c.args.p c.args.s.now))) c.enum_told-in-Foreign-1.given.1)))
+returns-in-Foreign c = unit_here c.args.s.now (unit_in (mode_of c.args.s.now c.args.quoted c.args.d c.args.e) c.args.fresh (drop c.args.p c.args.s.now)) c.args.p _ (in_sound (mode_of c.args.s.now c.args.quoted c.args.d c.args.e) c.args.fresh (drop c.args.p c.args.s.now)) (c.stop-in-Foreign.ensures ∙ ap piece_of (sym (in_line c.args.s.now c.args.p c.args.quoted c.args.fresh c.args.d c.args.e c.if-s-p.false c.if-quoted.false (not-false _ c.if-not-fresh.false-raw) c.line_at.result c.line_at.ensures ∙ ap (λ (x : Line). line_or x (unit false (drop c.args.p c.args.s.now))) c.in-Foreign.is)))

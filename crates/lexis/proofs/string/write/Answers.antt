@@ -33,7 +33,7 @@ pub loop-i-smaller : goal.loop-i-smaller
 loop-i-smaller c = omega (arith, turn (ahead_of c.args.s.now c.args.quoted c.args.d c.args.e c.loop-i.invariant (omega (arith, run_ends c.run_at-r.ensures, c.loop-i-test.true))) c.loop-i.invariant c.unit_at-u.ensures, c.loop-i-test.true)
 
 pub loop-i-preserved : goal.loop-i-preserved
-loop-i-preserved c = write_more (ahead_of c.args.s.now c.args.quoted c.args.d c.args.e c.loop-i.invariant (omega (arith, run_ends c.run_at-r.ensures, c.loop-i-test.true))) c.loop-i.invariant c.unit_at-u.ensures (λ x. omega (arith, c.shared_slice_known-1.given x)) (omega (arith, run_counts c.run_at-r.ensures, c.if-buf-at.false, c.if-buf-at-2.false)) c.put.ensures c.put.auto.0
+loop-i-preserved c = write_more (ahead_of c.args.s.now c.args.quoted c.args.d c.args.e c.loop-i.invariant (omega (arith, run_ends c.run_at-r.ensures, c.loop-i-test.true))) c.loop-i.invariant c.unit_at-u.ensures (λ x. omega (arith, c.shared_slice_known-1.given x)) (omega (arith, run_counts c.run_at-r.ensures, c.if-buf-at.false, c.if-buf-at-2.false)) c.put.ensures c.put.auto.buf
 
 pub shape_of-buf : goal.shape_of-buf
 shape_of-buf c = c.loop-i.invariant.long

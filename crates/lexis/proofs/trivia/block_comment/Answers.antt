@@ -5,10 +5,10 @@ use Rattle.lexis.proofs.Trivias.{closes_here, closes_not, closes_half, closes_la
 use Rattle.lexis.specs.Trivia.{closes, ends_at}
 use borrow.Author.Rules.{rules}
 use lib.ListN.{length}
-use mathlib.Core.Logic.{⊎_elim}
 use mathlib.Core.Path.{◌≡◌, refl, sym, ap, ◌∙◌}
 use native.Mathlib.Omega.{arith}
 use Rattle.lexis.proofs.trivia.block_comment.Goals as goal
+use Rattle.lexis.proofs.trivia.block_comment.Goals.{then-s-i-eq47+else-s-i-eq42, else-s-i-eq47}
 
 pub loop-i-init : goal.loop-i-init
 loop-i-init c = let a = c.args in
@@ -33,7 +33,7 @@ loop-i-preserved c = let s = c.args.s.now in
     let h = c.loop-i-test.true in
     let l : 1 ≤ i = omega (arith, c.loop-i.invariant.0) in
     let e : i + 1 - 1 ≡ i - 1 + 1 = omega arith in
-    (omega arith, omega arith, ap (reach closes s) e ∙ reach_on closes s (i - 1) (omega (arith, h)) (⊎_elim (λ w. closes_half s i l h w.2.left) (λ w. closes_not s i l h w.left) c.if-s-i-eq47.branch) ∙ c.loop-i.invariant.2)
+    (omega arith, omega arith, ap (reach closes s) e ∙ reach_on closes s (i - 1) (omega (arith, h)) (elim c.if-s-i-eq47.branch [ then-s-i-eq47+else-s-i-eq42 w ↦ closes_half s i l h w.if-s-i-eq42.false | else-s-i-eq47 w ↦ closes_not s i l h w.if-s-i-eq47.false ]) ∙ c.loop-i.invariant.2)
 
 pub returns : goal.returns
 returns c = let a = c.args in
