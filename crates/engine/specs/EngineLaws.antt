@@ -78,14 +78,15 @@ module _ {P A S : Type 0} (G : Grammar P A S) where
 
     fits_run : {s : S} {k φ : ℕ} {e : P} {ts : Trees P} → Fits G s k φ e ts → (n m : ℕ) → sizes ts ≤ n → sizes ts < m → run G m (read G n) s ≡ ok (record { kind = k; flag = φ; end = e; kids = ts })
     fits_run (ends v) n zero h w = absurd (omega arith)
-    fits_run (ends v) n (suc m) h w = act_is _ _ v
+    fits_run (ends v) n (suc m) h w = act_is (read G n) (run G m (read G n)) v
     fits_run (asks {t = t} {u} a p nm f v i s g q c) n zero h w = absurd (omega arith)
     fits_run (asks {t = t} {u} a p nm f v i s g q c) zero (suc m) h w = absurd (omega (arith, size_pos t, size_of nm t i))
     fits_run (asks {t = t} {u} a p nm f v i s g q c) (suc n) (suc m) h w =
-        act_is _ _ v
-        ∙ bind_is _ (subst (λ (x : P). climb G (suc n) (suc n) (read G n) a x ≡ ok t) s
+        act_is (read G (suc n)) (run G m (read G (suc n))) v
+        ∙ bind_is (λ (x : Tree P). bind (run G m (read G (suc n)) (f (rec_of x))) (λ (y : Body P). ok (with_kid G (rename nm x) y)))
+        (subst (λ (x : P). climb G (suc n) (suc n) (read G n) a x ≡ ok t) s
         (good_climb g n (omega (arith, size_of nm t i)) (suc (n - spine g)) (suc n) (omega (arith, spine_size g, size_of nm t i)) ∙ on_none t _ q))
-        ∙ bind_is _ (fits_run c (suc n) m (omega (arith, size_of nm t i)) (omega (arith, size_pos t, size_of nm t i))) ∙ with_is nm t i
+        ∙ bind_is (λ (y : Body P). ok (with_kid G (rename nm t) y)) (fits_run c (suc n) m (omega (arith, size_of nm t i)) (omega (arith, size_pos t, size_of nm t i))) ∙ with_is nm t i
 
     good_climb : {a : A} {t : Tree P} (g : Good G a t) (n : ℕ) → size t ≤ suc n → (m m' : ℕ) → m' ≡ m + spine g
         → climb G m' (suc n) (read G n) a (rec_of t).start ≡ loop G m (suc n) (read G n) a t

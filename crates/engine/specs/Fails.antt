@@ -90,19 +90,23 @@ module _ {P A S : Type 0} (G : Grammar P A S) where
       where
         step : (m n : ℕ) → 1 ≤ m → 1 ≤ n → run G m (read G n) s ≡ halt k q
         step zero n w u = absurd (omega arith)
-        step (suc m) n w u = act_is G _ _ v
+        step (suc m) n w u = act_is G (read G n) (run G m (read G n)) v
     fails_run (fails_kid {s} {k} {q} a p nm f v x) = let (N, h) = fails_read x in (suc N, step N h)
       where
         step : (N : ℕ) → ((n : ℕ) → N ≤ n → read G n a p ≡ halt k q) → (m n : ℕ) → suc N ≤ m → suc N ≤ n → run G m (read G n) s ≡ halt k q
         step N h zero n w u = absurd (omega arith)
-        step N h (suc m) n w u = act_is G _ _ v ∙ halt_is _ (h n (omega arith))
+        step N h (suc m) n w u =
+            act_is G (read G n) (run G m (read G n)) v
+            ∙ halt_is (λ (t : Tree P). bind (run G m (read G n) (f (rec_of t))) (λ (y : Body P). ok (with_kid G (rename nm t) y))) (h n (omega arith))
     fails_run (fails_rest {s} {k} {q} a p nm f t v y x) = let (N, h) = fails_run x in (suc (N + size t), step N h)
       where
         step : (N : ℕ) → ((m n : ℕ) → N ≤ m → N ≤ n → run G m (read G n) (f (rec_of t)) ≡ halt k q) → (m n : ℕ) → suc (N + size t) ≤ m → suc (N + size t) ≤ n
             → run G m (read G n) s ≡ halt k q
         step N h zero n w u = absurd (omega arith)
         step N h (suc m) n w u =
-            act_is G _ _ v ∙ bind_is _ (whole_read G a p t n (omega arith) y) ∙ halt_is _ (h m n (omega arith) (omega arith))
+            act_is G (read G n) (run G m (read G n)) v
+            ∙ bind_is (λ (x : Tree P). bind (run G m (read G n) (f (rec_of x))) (λ (y : Body P). ok (with_kid G (rename nm x) y))) (whole_read G a p t n (omega arith) y)
+            ∙ halt_is (λ (y : Body P). ok (with_kid G (rename nm t) y)) (h m n (omega arith) (omega arith))
 
   pub fails_full : (π : P → ℕ) (ν : S → ℕ) (μ : A → P → ℕ) → Moves G π ν μ → {a : A} {p : P} {k : ℕ} {q : P} → FailAt G a p k q → full G μ a p ≡ halt k q
   fails_full π ν μ W {a} {p} x =
