@@ -16,7 +16,7 @@ use Rattle.sample.specs.Posts.{looks, handed}
 use Rattle.engine.specs.Handed.{Pure, free, sober, meets, Blind, Posts}
 use Rattle.engine.specs.Tables.{Called}
 use Rattle.engine.specs.HandedLaws.{Tests-in, own_untested, untested_own}
-use Rattle.sample.specs.Facts.{kinds, heads_of, checked}
+use Rattle.sample.proofs.Facts.{kinds, heads_of, checked}
 
 -- ---- the theorem, uniqueness, an answer to every source
 
