@@ -1,0 +1,11 @@
+use Rattle.lexis.specs.Bytes.{is_foreign, byte_at}
+use Rattle.grammar.specs.Moves as moves
+use Rattle.grammar.proofs.Leaves.{one, other, tested}
+use borrow.Author.Rules.{rules}
+use Rattle.grammar.proofs.moves.unexpected.Goals as goal
+
+pub returns-then-is_foreign : goal.returns-then-is_foreign
+returns-then-is_foreign c = one (is_foreign (byte_at c.args.s.now c.args.p)) (moves.no 3 c.args.p) (moves.no 4 c.args.p) (tested is_foreign c.byte_at.ensures c.is_foreign.ensures c.if-is_foreign.true) c.refused.ensures
+
+pub returns-else-is_foreign : goal.returns-else-is_foreign
+returns-else-is_foreign c = other (is_foreign (byte_at c.args.s.now c.args.p)) (moves.no 3 c.args.p) (moves.no 4 c.args.p) (tested is_foreign c.byte_at.ensures c.is_foreign.ensures c.if-is_foreign.false) c.refused-else-is_foreign.ensures

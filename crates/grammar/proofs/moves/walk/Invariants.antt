@@ -1,0 +1,11 @@
+use Prim.Native.Nat.{◌-◌}
+use native.Mathlib.Omega.{arith}
+use Rattle.grammar.proofs.Walks.{Walking, walking_start, walking_end, walking_no, walking_more}
+use borrow.Author.Rules.{rules}
+use Rattle.grammar.proofs.moves.walk.Given as goal
+
+abbrev pub invariant-loop-left : goal.invariant-loop-left
+invariant-loop-left l = Walking l.s l.left l.lines l.a l.p l.i l.q
+
+abbrev pub decreases-loop-left : goal.decreases-loop-left
+decreases-loop-left l = 146 - l.i

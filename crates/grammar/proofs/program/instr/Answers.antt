@@ -1,0 +1,13 @@
+use Prim.Native.Nat.{ℕ}
+use lib.Dec.{T}
+use mathlib.Core.Path.{ap, sym, subst}
+use native.Mathlib.Omega.{arith}
+use Rattle.engine.specs.Base.{has}
+use Rattle.grammar.specs.Code.{operation, argument, class, otherwise}
+use Rattle.grammar.specs.Said.{classes}
+use Rattle.grammar.proofs.Tables.{class_known}
+use borrow.Author.Rules.{rules}
+use Rattle.grammar.proofs.program.instr.Goals as goal
+
+pub returns : goal.returns
+returns c = record { op = ap operation c.word-x.ensures.is; arg = ap argument c.word-x.ensures.is; class = ap class c.word-x.ensures.is; next = ap otherwise c.word-x.ensures.is; here = omega arith; known = subst (λ (x : ℕ). T (has classes (class x))) (sym c.word-x.ensures.is) (class_known c.args.pc); short = omega arith; near = omega arith }
