@@ -29,9 +29,12 @@ module _ (s : List ℕ) (f : ℕ → Row ℕ) where
   pub kids_walk : {lo hi : ℕ} {js : List ℕ} → Kids f lo hi js → ((j : ℕ) → j < hi → 1 ≤ (f j).count) → Walk (Rule s) f lo hi [] js
   kids_walk {lo} {js = js} ks g = kids_on ks g lo [] js (subst (λ (l : List ℕ). Walk (Rule s) f lo lo l js) (sym (append-nil js)) there)
 
+  walk_here : {lo hi : ℕ} {acc ks : List ℕ} → Walk (Rule s) f lo hi acc ks → hi ≤ lo → acc ≡ ks
+  walk_here there h = refl
+  walk_here (over i mid z c l w) h = absurd (let v = walk_le (Rule s) f w in omega arith)
+
   walk_same : {lo hi : ℕ} {acc js ks : List ℕ} → Walk (Rule s) f lo hi acc js → Walk (Rule s) f lo hi acc ks → js ≡ ks
-  walk_same there there = refl
-  walk_same there (over i mid z c l w) = absurd (let v = walk_le (Rule s) f w in omega arith)
+  walk_same there w = walk_here w (omega arith)
   walk_same (over i mid z c l w) there = absurd (let v = walk_le (Rule s) f w in omega arith)
   walk_same {lo} {hi} {acc} {js} {ks} (over i mid z c l w) (over i' mid' z' c' l' w') =
       let e : i' ≡ i = omega arith in
