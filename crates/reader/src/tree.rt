@@ -34,7 +34,7 @@ const PORTION: u8 = 10;
 const FILTER: u8 = 12;
 
 // An expression at p: a term, and the operators of a level above j that follow, with what stands to their right.
-#[cycle(array_expr_first_grow_heredoc_interp_item_laid_named_object_part_parts_pieces_prim_quoted_sub_term_within)]
+#[cycle(tree)]
 pub fn expr(
     s: &[u8],
     nodes: &mut [u16],
@@ -90,7 +90,7 @@ pub fn expr(
 }
 
 // What stands first at p, of a kind, with the term of a unary operator; a word or a number ends at `end`, which is p for all else.
-#[cycle(array_expr_first_grow_heredoc_interp_item_laid_named_object_part_parts_pieces_prim_quoted_sub_term_within)]
+#[cycle(tree)]
 pub fn first(
     s: &[u8],
     nodes: &mut [u16],
@@ -122,7 +122,7 @@ pub fn first(
 }
 
 // What follows an operand from `start` to p, of a kind; a binary operator ends at `end`, which is p for all else. `before` records of the operand stand before the i-th.
-#[cycle(array_expr_first_grow_heredoc_interp_item_laid_named_object_part_parts_pieces_prim_quoted_sub_term_within)]
+#[cycle(tree)]
 pub fn grow(
     s: &[u8],
     nodes: &mut [u16],
@@ -163,7 +163,7 @@ pub fn grow(
 }
 
 // A term at p, its traversals included; for a unary operator it calls itself.
-#[cycle(array_expr_first_grow_heredoc_interp_item_laid_named_object_part_parts_pieces_prim_quoted_sub_term_within)]
+#[cycle(tree)]
 pub fn term(
     s: &[u8],
     nodes: &mut [u16],
@@ -249,7 +249,7 @@ fn is_quoted(kind: u16) -> bool
 }
 
 // What a term begins with, of a kind that is no unary operator.
-#[cycle(array_expr_first_grow_heredoc_interp_item_laid_named_object_part_parts_pieces_prim_quoted_sub_term_within)]
+#[cycle(tree)]
 pub fn prim(
     s: &[u8],
     nodes: &mut [u16],
@@ -285,7 +285,7 @@ pub fn prim(
 }
 
 // The production of a kind of the program, for a node from `start`, read on from p; `before` records of its left operand stand before the i-th.
-#[cycle(array_expr_first_grow_heredoc_interp_item_laid_named_object_part_parts_pieces_prim_quoted_sub_term_within)]
+#[cycle(tree)]
 pub fn laid(
     s: &[u8],
     nodes: &mut [u16],
@@ -356,7 +356,7 @@ pub fn laid(
 }
 
 // A child of a class at p, under a node with so many levels left in a mode.
-#[cycle(array_expr_first_grow_heredoc_interp_item_laid_named_object_part_parts_pieces_prim_quoted_sub_term_within)]
+#[cycle(tree)]
 pub fn sub(
     s: &[u8],
     nodes: &mut [u16],
@@ -408,7 +408,7 @@ pub fn sub(
 }
 
 // An array at p: its items, with a comma between two and perhaps behind the last.
-#[cycle(array_expr_first_grow_heredoc_interp_item_laid_named_object_part_parts_pieces_prim_quoted_sub_term_within)]
+#[cycle(tree)]
 pub fn array(
     s: &[u8],
     nodes: &mut [u16],
@@ -453,7 +453,7 @@ pub fn array(
 }
 
 // An expression in brackets at p, of a kind, with what closes it.
-#[cycle(array_expr_first_grow_heredoc_interp_item_laid_named_object_part_parts_pieces_prim_quoted_sub_term_within)]
+#[cycle(tree)]
 pub fn within(
     s: &[u8],
     nodes: &mut [u16],
@@ -494,7 +494,7 @@ pub fn within(
 }
 
 // A part of a traversal at p.
-#[cycle(array_expr_first_grow_heredoc_interp_item_laid_named_object_part_parts_pieces_prim_quoted_sub_term_within)]
+#[cycle(tree)]
 pub fn part(
     s: &[u8],
     nodes: &mut [u16],
@@ -525,7 +525,7 @@ pub fn part(
 }
 
 // The parts of a traversal from p on, for a node from `start`; `before` records of its base stand before the i-th.
-#[cycle(array_expr_first_grow_heredoc_interp_item_laid_named_object_part_parts_pieces_prim_quoted_sub_term_within)]
+#[cycle(tree)]
 pub fn parts(
     s: &[u8],
     nodes: &mut [u16],
@@ -572,7 +572,7 @@ pub fn parts(
 }
 
 // An interpolation at p.
-#[cycle(array_expr_first_grow_heredoc_interp_item_laid_named_object_part_parts_pieces_prim_quoted_sub_term_within)]
+#[cycle(tree)]
 pub fn interp(
     s: &[u8],
     nodes: &mut [u16],
@@ -629,7 +629,7 @@ pub fn interp(
 }
 
 // A quote at p: a string, or a template where an interpolation ends its first run.
-#[cycle(array_expr_first_grow_heredoc_interp_item_laid_named_object_part_parts_pieces_prim_quoted_sub_term_within)]
+#[cycle(tree)]
 pub fn quoted(
     s: &[u8],
     nodes: &mut [u16],
@@ -671,7 +671,7 @@ pub fn quoted(
 }
 
 // A heredoc at p.
-#[cycle(array_expr_first_grow_heredoc_interp_item_laid_named_object_part_parts_pieces_prim_quoted_sub_term_within)]
+#[cycle(tree)]
 pub fn heredoc(
     s: &[u8],
     nodes: &mut [u16],
@@ -733,7 +733,7 @@ pub fn heredoc(
 }
 
 // The text of a template or heredoc that starts at `start`, from p on: its pieces and interpolations, and its end.
-#[cycle(array_expr_first_grow_heredoc_interp_item_laid_named_object_part_parts_pieces_prim_quoted_sub_term_within)]
+#[cycle(tree)]
 pub fn pieces(
     s: &[u8],
     nodes: &mut [u16],
@@ -799,7 +799,7 @@ pub fn pieces(
 }
 
 // An object at p. Its keys that may be compared stand in the slots from the k-th on.
-#[cycle(array_expr_first_grow_heredoc_interp_item_laid_named_object_part_parts_pieces_prim_quoted_sub_term_within)]
+#[cycle(tree)]
 pub fn object(
     s: &[u8],
     nodes: &mut [u16],
@@ -867,7 +867,7 @@ pub fn object(
 }
 
 // An item at p, whose key has the mark h and is a word where `end` is not p, with the earlier keys of its object in the slots from the first-th to before the k-th.
-#[cycle(array_expr_first_grow_heredoc_interp_item_laid_named_object_part_parts_pieces_prim_quoted_sub_term_within)]
+#[cycle(tree)]
 pub fn item(
     s: &[u8],
     nodes: &mut [u16],
@@ -936,7 +936,7 @@ pub fn item(
 }
 
 // An item whose key is a word from p to `end`, of a kind as a term, with a sign at `at`.
-#[cycle(array_expr_first_grow_heredoc_interp_item_laid_named_object_part_parts_pieces_prim_quoted_sub_term_within)]
+#[cycle(tree)]
 pub fn named(
     s: &[u8],
     nodes: &mut [u16],

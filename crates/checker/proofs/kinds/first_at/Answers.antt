@@ -1,0 +1,22 @@
+use mathlib.Core.Logic.{⊎_map}
+use Rattle.checker.proofs.Callings.{first_none, first_dollar, first_always, first_key, first_part, first_term}
+use borrow.Author.Rules.{rules}
+use Rattle.checker.proofs.kinds.first_at.Goals as goal
+
+pub returns-in-0 : goal.returns-in-0
+returns-in-0 c = first_none _ _ _ c.in-0.is
+
+pub returns-in-10 : goal.returns-in-10
+returns-in-10 c = first_dollar _ _ _ c.in-10.is c.two_at.ensures
+
+pub returns-in-13 : goal.returns-in-13
+returns-in-13 c = first_always _ _ _ c.in-13.is
+
+pub returns-in-14 : goal.returns-in-14
+returns-in-14 c = first_key _ _ _ c.in-14.is c.term_at.ensures
+
+pub returns-in-38-to-42 : goal.returns-in-38-to-42
+returns-in-38-to-42 c = first_part _ _ _ c.in-38-to-42.if-kind-lt38-own.false c.in-38-to-42.if-kind-lt43-own.true c.part_at.ensures
+
+pub returns-in_default : goal.returns-in_default
+returns-in_default c = first_term _ _ _ c.in_default-1.rest.0.0.0.1 c.in_default-1.rest.0.0.1 c.in_default-1.rest.0.1 c.in_default-1.rest.1 (⊎_map (λ x. x.taken) (λ x. x.1.left) c.in_default.branch) c.term_at-in_default.ensures

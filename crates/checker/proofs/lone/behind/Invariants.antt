@@ -1,0 +1,15 @@
+use native.Mathlib.Omega.{arith}
+use Prim.Native.Nat.{◌-◌, ◌+◌, ◌≤◌, ◌<◌}
+use mathlib.Core.Path.{◌≡◌, refl, sym, ap, ◌∙◌}
+use borrow.Author.Rules.{rules}
+use borrow.Author.Tests.{not-true, not-false}
+use lib.ListN.{length}
+use Rattle.checker.specs.Lone.{Known}
+use Rattle.checker.proofs.Lones.{Trail, trail_start, trail_inside, trail_room, trail_known, trail_none, trail_on, trail_sign}
+use Rattle.checker.proofs.lone.behind.Given as goal
+
+abbrev pub invariant-loop-memo : goal.invariant-loop-memo
+invariant-loop-memo l = Trail l.s l.c l.at × Known l.s l.memo
+
+abbrev pub decreases-loop-memo : goal.decreases-loop-memo
+decreases-loop-memo l = length l.s - l.at

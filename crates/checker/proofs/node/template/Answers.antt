@@ -1,0 +1,24 @@
+use native.Mathlib.Omega.{arith}
+use mathlib.Core.List.{[]}
+use Prim.Native.Nat.{◌-◌, ◌+◌, ◌*◌, ◌<◌, ◌≤◌}
+use mathlib.Core.Path.{◌≡◌, refl, sym, ap, subst, ◌∙◌}
+use borrow.Author.Tests.{not-true, not-false}
+use Rattle.checker.proofs.Nodes.{left_no, left_by, is_t, not_t, first_as, left_as, laid_as, text_as_lem, opened_as, node_piece, node_lost, node_by, family_linked}
+use Rattle.checker.proofs.Heads.{head_no, head_known, head_by}
+use Rattle.checker.proofs.Growns.{grown_none, grown_left_no, left_known, grown_by}
+use Rattle.checker.proofs.TextHeads.{template_first_no, template_flag_no, template_mode, template_by, heredoc_first_no, heredoc_no, heredoc_flag_no, heredoc_mode, heredoc_by, string_kids, string_by}
+use Rattle.checker.proofs.Lays.{chain_le, next_of}
+use borrow.Author.Rules.{rules}
+use Rattle.checker.proofs.node.template.Goals as goal
+
+pub returns-then-table-i-ne0 : goal.returns-then-table-i-ne0
+returns-then-table-i-ne0 c = template_flag_no _ _ _ _ _ _ _ _ (c.requires.2) (c.if-table-i-ne0.true)
+
+pub returns-then-not-first_at : goal.returns-then-not-first_at
+returns-then-not-first_at c = template_first_no _ _ _ _ _ _ _ _ (c.requires.2) (not-true _ (c.if-not-first_at.true-raw)) (first_as (c.wide-start.ensures.0) (c.multi_line.ensures) (c.first_at.ensures))
+
+pub texts-requires : goal.texts-requires
+texts-requires c = (record { within = c.requires.0.within; marked = c.requires.0.marked; deep = c.requires.0.deep; js = c.requires.1.js; chain = c.requires.1.chain; mode = template_mode (c.args.s.now) [] (c.args.table.now) (c.args.i) (c.args.own) [] [] 0 (c.requires.2) (not-false _ (c.if-not-first_at.false-raw)) (first_as (c.wide-start.ensures.0) (c.multi_line.ensures) (c.first_at.ensures)) }, omega (arith, c.wide-start.ensures.1))
+
+pub returns : goal.returns
+returns c = template_by _ _ _ _ _ _ _ _ (c.requires.2) (not-false _ (c.if-not-first_at.false-raw)) (first_as (c.wide-start.ensures.0) (c.multi_line.ensures) (c.first_at.ensures)) (c.if-table-i-ne0.false) (text_as_lem (ap (λ x. x + 1) (c.wide-start.ensures.0)) (c.texts.ensures))

@@ -1,0 +1,12 @@
+use native.Mathlib.Omega.{arith}
+use Prim.Native.Nat.{◌-◌, ◌+◌, ◌*◌, ◌<◌}
+use mathlib.Core.Path.{◌≡◌, refl, sym, ap, subst, ◌∙◌}
+use borrow.Author.Tests.{not-true, not-false}
+use borrow.Author.Rules.{rules}
+use Rattle.checker.proofs.pass.packed.Goals as goal
+
+pub returns-then-lines : goal.returns-then-lines
+returns-then-lines c = rw (c.if-lines.true)
+
+pub returns-else-lines : goal.returns-else-lines
+returns-else-lines c = rw (c.if-lines.false) (omega arith)

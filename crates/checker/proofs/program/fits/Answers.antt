@@ -1,0 +1,6 @@
+use Rattle.checker.proofs.Programs.{sits_in}
+use borrow.Author.Rules.{rules}
+use Rattle.checker.proofs.program.fits.Goals as goal
+
+pub returns : goal.returns
+returns c = sits_in c.args.want c.args.kind c.sits.ensures c.seat.ensures

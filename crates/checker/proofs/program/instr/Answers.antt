@@ -1,0 +1,11 @@
+use mathlib.Core.Path.{refl}
+use native.Mathlib.Omega.{arith}
+use Rattle.checker.proofs.Programs.{instr_low, instr_own}
+use borrow.Author.Rules.{rules}
+use Rattle.checker.proofs.program.instr.Goals as goal
+
+pub returns-then-pc-lt228 : goal.returns-then-pc-lt228
+returns-then-pc-lt228 c = instr_low c.if-pc-lt228.true c.instr.ensures
+
+pub returns : goal.returns
+returns c = instr_own c.args.pc c.word-x.result c.if-pc-lt228.false c.word-x.ensures refl refl refl refl (omega arith)

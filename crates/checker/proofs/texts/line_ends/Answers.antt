@@ -1,0 +1,15 @@
+use Prim.Native.Nat.{◌-◌, ◌+◌, ◌*◌, ◌<◌, ◌≤◌}
+use mathlib.Core.Path.{◌≡◌, refl, sym, ap, subst, ◌∙◌}
+use borrow.Author.Tests.{not-true, not-false}
+use Rattle.checker.proofs.Strands.{line_closes, line_text, line_foreign}
+use borrow.Author.Rules.{rules}
+use Rattle.checker.proofs.texts.line_ends.Goals as goal
+
+pub returns-in-Text : goal.returns-in-Text
+returns-in-Text c = line_text (sym (c.line_at.ensures) ∙ c.in-Text.is)
+
+pub returns-in-Closes : goal.returns-in-Closes
+returns-in-Closes c = line_closes (sym (c.line_at.ensures) ∙ c.in-Closes.is)
+
+pub returns-in-Foreign : goal.returns-in-Foreign
+returns-in-Foreign c = line_foreign (sym (c.line_at.ensures) ∙ c.in-Foreign.is)

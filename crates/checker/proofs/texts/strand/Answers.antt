@@ -1,0 +1,22 @@
+use native.Mathlib.Omega.{arith}
+use Prim.Native.Nat.{◌-◌, ◌+◌, ◌*◌, ◌<◌, ◌≤◌}
+use mathlib.Core.Path.{◌≡◌, refl, sym, ap, subst, ◌∙◌}
+use borrow.Author.Tests.{not-true, not-false}
+use Rattle.checker.proofs.Strands.{strand_no, strand_piece, strand_dollar, strand_other}
+use borrow.Author.Rules.{rules}
+use Rattle.checker.proofs.texts.strand.Goals as goal
+
+pub returns-then-start-q : goal.returns-then-start-q
+returns-then-start-q c = strand_no _ _ _ _ _ _ _ _ (λ a b σ u. c.if-start-q.true (c.wide-start.ensures.0 ∙ a))
+
+pub returns-then-wide-start : goal.returns-then-wide-start
+returns-then-wide-start c = strand_no _ _ _ _ _ _ _ _ (λ a b σ u. omega (arith, b.some, c.if-wide-start.true, c.wide-start.ensures.0, c.wide.ensures.0))
+
+pub returns-then-kind-eq-PIECE : goal.returns-then-kind-eq-PIECE
+returns-then-kind-eq-PIECE c = strand_piece _ _ _ _ _ _ _ _ (c.piece.ensures) (c.if-kind-eq-PIECE.true) (sym (c.wide-start.ensures.0) ∙ c.if-start-q.false)
+
+pub returns-then-kind-ne-INTERPOLATION : goal.returns-then-kind-ne-INTERPOLATION
+returns-then-kind-ne-INTERPOLATION c = strand_other _ _ _ _ _ _ _ _ (c.if-kind-eq-PIECE.false) (c.if-kind-ne-INTERPOLATION.true)
+
+pub returns : goal.returns
+returns c = strand_dollar _ _ _ _ _ _ _ _ (c.opens.ensures) (c.if-kind-ne-INTERPOLATION.false) (sym (c.wide-start.ensures.0) ∙ c.if-start-q.false)

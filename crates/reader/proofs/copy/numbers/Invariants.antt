@@ -1,0 +1,15 @@
+use Prim.Native.Nat.{ℕ, ◌-◌, ◌≤◌}
+use mathlib.Core.Path.{◌≡◌, refl, ap, ◌∙◌}
+use native.Mathlib.Omega.{arith}
+use borrow.Author.Rules.{rules}
+use lib.ListN.{length, length-set}
+use Rattle.reader.specs.Buffer.{copied}
+use Rattle.reader.proofs.Copies.{stored}
+use Rattle.reader.proofs.copy.numbers.Given as goal
+
+-- so far i are copied
+abbrev pub invariant-loop-i : goal.invariant-loop-i
+invariant-loop-i l = (l.i ≤ l.n) × (l.to ≡ copied l.i l.from l.initial.to) × (length l.to ≡ length l.initial.to)
+
+abbrev pub decreases-loop-i : goal.decreases-loop-i
+decreases-loop-i l = l.n - l.i

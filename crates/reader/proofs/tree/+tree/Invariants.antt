@@ -1,0 +1,133 @@
+-- The measures of the cycle: the levels left, then what is left of the source, then a rank for calls at one place; and the loops of its members.
+use Prim.Native.Nat.{ℕ, ◌+◌, ◌*◌, ◌-◌, ◌<◌, ◌≤◌}
+use Rattle.grammar.specs.Hcl.{under, pick_at}
+use Rattle.grammar.specs.Moves.{an_expression}
+use Rattle.grammar.specs.PickLaws.{condition_known, part_kind}
+use Rattle.grammar.specs.Programmed.{Programmed, programmed}
+use Rattle.reader.proofs.Answers.{good, kept_same, kept_join, Turning, turning_start, pass}
+use Rattle.reader.proofs.Arrays.{Arraying, array_inside, array_deep, array_gap, arraying_start, array_high, array_closing, array_ok, array_no, array_far, array_else, array_more, array_square, array_as}
+use Rattle.reader.proofs.Entries.{still_indexed, no_key, no_sign, no_space, no_value, item_done}
+use Rattle.reader.proofs.Exprs.{Low, term_none, term_head_no, term_stop, term_no, term_more, term_far, Only, expr_stop, expr_known, expr_no, expr_more, expr_far}
+use Rattle.reader.proofs.Firsts.{first_term, first_none, leaf_closing, first_leaf, grow_low, grow_high, grow_inside, grow_space, grow_no, grow_closing, grow_ok}
+use Rattle.reader.proofs.Interps.{tilde_few, tilde_high, interp_two, brace_high, interp_none, interp_deep, interp_gap, interp_no, interp_open, interp_else, interp_ok}
+use Rattle.reader.proofs.Keepings.{word_marks}
+use Rattle.reader.proofs.Laidings.{Aim, laid_ok, laid_room, laid_stop, laid_other, laid_later, laid_on, laid_within, aim_kid, aim_past, aim_low, aim_high, aim_lead, aim_no, aim_yes, aim_far}
+use Rattle.reader.proofs.Laids.{Turn as TurnLaids, turn_start as turn_start_laids}
+use Rattle.reader.proofs.Leads.{lead_none, lead_primary, lead_first, run_template, run_string}
+use Rattle.reader.proofs.Nameds.{named_baring, named_small, named_far, named_low, named_high, named_met, named_space, named_value, named_done}
+use Rattle.reader.proofs.ObjectTurns.{Turn as TurnObjectTurns, stood, close_room, inside_brace, object_deep, object_open_no, object_empty, turn_start as turn_start_objectturns, turn_no, turn_keeping, object_end_no, object_end, turn_more}
+use Rattle.reader.proofs.Parts.{Parting, parting_start, parts_there, parts_gap, parts_cut, parts_else, parts_end, parts_closing, parts_no, parts_far, parts_more, part_dot, part_square, part_none, part_made, part_bare, parts_as, parts_laying}
+use Rattle.reader.proofs.Pieces.{Round, round_start, round_piece, round_piecing, round_asked, round_interp, round_interp_no, round_far, round_ends_no, round_closes, round_closing}
+use Rattle.reader.proofs.Quotes.{heredoc_no, heredoc_asked, heredoc_texting, heredoc_said, quoted_asked, quoted_texting, quoted_said}
+use Rattle.reader.proofs.Ranks.{rank_most, rank_part, rank_condition, rank_other}
+use Rattle.reader.proofs.Strings.{quoting}
+use Rattle.reader.proofs.Subs.{prim_term, prim_laid, no_string, no_template, sub_name, sub_condition, sub_part_none, sub_part, expression_bound, sub_expression}
+use Rattle.reader.proofs.Terms.{term_picked, term_firm, term_primary, term_inside, term_deep, term_space, term_under_no, term_under_room, term_under}
+use Rattle.reader.proofs.Withins.{bracketed_round, bracketed_square, within_there, within_high, within_closing, within_deep, within_gap, within_no, within_open, within_else, within_ok}
+use Rattle.reader.specs.Said.{Asked, Kept, Laying, Texting}
+use Rattle.reader.specs.Text.{flag_of}
+use borrow.Author.Rules.{rules}
+use borrow.Author.Tests.{not-true, not-false}
+use lib.ListN.{length}
+use mathlib.Core.List.{[], ◌∷◌}
+use mathlib.Core.Logic.{⊎_elim}
+use mathlib.Core.Option.{some}
+use mathlib.Core.Path.{ap, ◌∙◌, ◌≡◌, refl, subst, sym}
+use native.Mathlib.Omega.{arith}
+use Rattle.reader.proofs.tree.+tree.Given as goal
+
+abbrev pub decreases-array : goal.decreases-array
+decreases-array l = 8388608 * l.left + 128 * (length l.s.now - l.p) + 85
+
+abbrev pub decreases-expr : goal.decreases-expr
+decreases-expr l = 8388608 * l.left + 128 * (length l.s.now - l.p) + 100
+
+abbrev pub decreases-first : goal.decreases-first
+decreases-first l = 8388608 * l.left + 128 * (length l.s.now - l.p) + 99
+
+abbrev pub decreases-grow : goal.decreases-grow
+decreases-grow l = 8388608 * l.left + 128 * (length l.s.now - l.p) + 88
+
+abbrev pub decreases-heredoc : goal.decreases-heredoc
+decreases-heredoc l = 8388608 * l.left + 128 * (length l.s.now - l.p) + 94
+
+abbrev pub decreases-interp : goal.decreases-interp
+decreases-interp l = 8388608 * l.left + 128 * (length l.s.now - l.p) + 90
+
+abbrev pub decreases-item : goal.decreases-item
+decreases-item l = 8388608 * l.left + 128 * (length l.s.now - l.p) + 102
+
+abbrev pub decreases-laid : goal.decreases-laid
+decreases-laid l = 8388608 * l.left + 128 * (length l.s.now - l.p) + 2 * (43 - l.kind)
+
+abbrev pub decreases-named : goal.decreases-named
+decreases-named l = 8388608 * l.left + 128 * (length l.s.now - l.p) + 101
+
+abbrev pub decreases-object : goal.decreases-object
+decreases-object l = 8388608 * l.left + 128 * (length l.s.now - l.p) + 94
+
+abbrev pub decreases-part : goal.decreases-part
+decreases-part l = 8388608 * l.left + 128 * (length l.s.now - l.p) + 86
+
+abbrev pub decreases-parts : goal.decreases-parts
+decreases-parts l = 8388608 * l.left + 128 * (length l.s.now - l.p) + 87
+
+abbrev pub decreases-pieces : goal.decreases-pieces
+decreases-pieces l = 8388608 * l.left + 128 * (length l.s.now - l.p) + 92
+
+abbrev pub decreases-prim : goal.decreases-prim
+decreases-prim l = 8388608 * l.left + 128 * (length l.s.now - l.p) + 96
+
+abbrev pub decreases-quoted : goal.decreases-quoted
+decreases-quoted l = 8388608 * l.left + 128 * (length l.s.now - l.p) + 94
+
+abbrev pub decreases-sub : goal.decreases-sub
+decreases-sub l = 8388608 * l.left + 128 * (length l.s.now - l.p) + sub_rank l.class
+
+abbrev pub decreases-term : goal.decreases-term
+decreases-term l = 8388608 * l.left + 128 * (length l.s.now - l.p) + 98
+
+abbrev pub decreases-within : goal.decreases-within
+decreases-within l = 8388608 * l.left + 128 * (length l.s.now - l.p) + 85
+
+abbrev pub invariant-expr-loop-f : goal.invariant-expr-loop-f
+invariant-expr-loop-f l = Turning (Only l.j) l.s (under l.left l.lines an_expression) l.i l.u l.p l.initial.e l.initial.n l.initial.t l.initial.nodes l.nodes l.initial.text l.text l.e l.n l.t × Kept l.k l.initial.keys l.keys × (length l.nodes ≡ length l.initial.nodes) × (length l.text ≡ length l.initial.text)
+
+abbrev pub decreases-expr-loop-f : goal.decreases-expr-loop-f
+decreases-expr-loop-f l = length l.s - l.e
+
+abbrev pub invariant-term-loop-i : goal.invariant-term-loop-i
+invariant-term-loop-i l = Turning Low l.s (under l.left l.lines an_expression) l.i l.u l.p l.initial.e l.initial.n l.initial.t l.initial.nodes l.nodes l.initial.text l.text l.e l.n l.t × Kept l.k l.initial.keys l.keys × (length l.nodes ≡ length l.initial.nodes) × (length l.text ≡ length l.initial.text)
+
+abbrev pub decreases-term-loop-i : goal.decreases-term-loop-i
+decreases-term-loop-i l = length l.s - l.e
+
+abbrev pub invariant-laid-loop-nodes : goal.invariant-laid-loop-nodes
+invariant-laid-loop-nodes l = Asked l.s l.initial.keys l.i l.u l.k l.p × Laying l.start l.p l.before l.kind × TurnLaids l.s l.left l.lines l.start l.kind l.p l.i l.u l.initial.nodes l.nodes l.initial.text l.text l.pc l.q l.n l.t × Kept l.k l.initial.keys l.keys × (length l.nodes ≡ length l.initial.nodes) × (length l.text ≡ length l.initial.text)
+
+abbrev pub decreases-laid-loop-nodes : goal.decreases-laid-loop-nodes
+decreases-laid-loop-nodes l = 256 * (length l.s - l.q) + (228 - l.pc)
+
+abbrev pub invariant-parts-loop-g : goal.invariant-parts-loop-g
+invariant-parts-loop-g l = Asked l.s l.initial.keys l.i l.u l.k l.p × Laying l.start l.p l.before 37 × Parting l.s l.left l.lines l.start l.p l.i l.u l.initial.nodes l.nodes l.initial.text l.text l.q l.n l.t × Kept l.k l.initial.keys l.keys × (length l.nodes ≡ length l.initial.nodes) × (length l.text ≡ length l.initial.text)
+
+abbrev pub decreases-parts-loop-g : goal.decreases-parts-loop-g
+decreases-parts-loop-g l = length l.s - l.q
+
+abbrev pub invariant-array-loop-nodes : goal.invariant-array-loop-nodes
+invariant-array-loop-nodes l = Asked l.s l.initial.keys l.i l.u l.k l.p × Arraying l.s l.left l.lines l.p l.i l.u l.initial.nodes l.nodes l.initial.text l.text l.q l.n l.t × Kept l.k l.initial.keys l.keys × (length l.nodes ≡ length l.initial.nodes) × (length l.text ≡ length l.initial.text)
+
+abbrev pub decreases-array-loop-nodes : goal.decreases-array-loop-nodes
+decreases-array-loop-nodes l = length l.s - l.q
+
+abbrev pub invariant-object-loop-w : goal.invariant-object-loop-w
+invariant-object-loop-w l = TurnObjectTurns l.s l.left l.lines l.i l.u l.p l.k l.initial.nodes l.nodes l.initial.text l.text l.initial.keys l.keys l.q l.n l.t l.top × (length l.nodes ≡ length l.initial.nodes) × (length l.text ≡ length l.initial.text)
+
+abbrev pub decreases-object-loop-w : goal.decreases-object-loop-w
+decreases-object-loop-w l = length l.s - l.q
+
+abbrev pub invariant-pieces-loop-q : goal.invariant-pieces-loop-q
+invariant-pieces-loop-q l = Asked l.s l.initial.keys l.i l.u l.k l.p × Texting l.s l.start l.p l.kind l.flag l.plain l.d l.e × Round l.s l.left l.lines l.start l.kind l.flag l.p l.i l.u l.k l.initial.nodes l.nodes l.initial.text l.text l.initial.keys l.keys l.q l.n l.t × (length l.nodes ≡ length l.initial.nodes) × (length l.text ≡ length l.initial.text)
+
+abbrev pub decreases-pieces-loop-q : goal.decreases-pieces-loop-q
+decreases-pieces-loop-q l = length l.s - l.q
