@@ -42,7 +42,7 @@ module _ {P B M C : Type 0} (N : Lang P B M C) (Z : B → C → Rec P → Type 0
   pub over_fin : {b : B} {σ : P} {ks : List (Rec P)} {p e : P} {φ : ℕ} {rs : List (Rec P)} {bs : List (B × ℕ)} {n : ℕ} → Runs N Z b σ ks (fin n) p e φ rs bs → AtEnd p e n φ rs bs
   over_fin rfin = record { end = refl; flag = refl; rest = refl; atts = refl }
 
-  pub over_kid : {b : B} {σ : P} {ks : List (Rec P)} {p e : P} {φ : ℕ} {rs : List (Rec P)} {bs : List (B × ℕ)} {c : C} {l : Lay M C} → Runs N Z b σ ks (kid c l) p e φ rs bs → AtKid b σ ks e φ rs bs c l p
+  pub over_kid : {b : B} {σ : P} {ks : List (Rec P)} {p e : P} {φ : ℕ} {rs : List (Rec P)} {c : C} {l : Lay M C} {bs : List (B × ℕ)} → Runs N Z b σ ks (kid c l) p e φ rs bs → AtKid b σ ks e φ rs bs c l p
   over_kid (rkid d s z w) = record { child = _; rest = _; att = _; atts = _; are = refl; from = refl; down = d; start = s; test = z; on = w }
 
   pub over_move : {b : B} {σ : P} {ks : List (Rec P)} {p e : P} {φ : ℕ} {rs : List (Rec P)} {bs : List (B × ℕ)} {m : M} {l : Lay M C} → Runs N Z b σ ks (move m l) p e φ rs bs → (q : P) × (N.go b m σ p ≡ some q) × Runs N Z b σ ks l q e φ rs bs
@@ -56,11 +56,11 @@ module _ {P B M C : Type 0} (N : Lang P B M C) (Z : B → C → Rec P → Type 0
   over_no g (ryes q h w) = none_some (sym g ∙ h)
   over_no g (rno h w) = w
 
-  pub over_rep : {b : B} {σ : P} {ks : List (Rec P)} {p e : P} {φ : ℕ} {rs : List (Rec P)} {bs : List (B × ℕ)} {m : M} {c : C} {l : Lay M C} {q : P} → N.go b m σ p ≡ some q → Runs N Z b σ ks (rep m c l) p e φ rs bs → AtKid b σ ks e φ rs bs c (rep m c l) q
+  pub over_rep : {b : B} {σ : P} {ks : List (Rec P)} {p e : P} {φ : ℕ} {rs : List (Rec P)} {m : M} {c : C} {l : Lay M C} {bs : List (B × ℕ)} {q : P} → N.go b m σ p ≡ some q → Runs N Z b σ ks (rep m c l) p e φ rs bs → AtKid b σ ks e φ rs bs c (rep m c l) q
   over_rep g (rrep q h d s z w) = record { child = _; rest = _; att = _; atts = _; are = refl; from = refl; down = d; start = s ∙ some_is (sym h ∙ g); test = z; on = w }
   over_rep g (rend h w) = none_some (sym h ∙ g)
 
-  pub over_end : {b : B} {σ : P} {ks : List (Rec P)} {p e : P} {φ : ℕ} {rs : List (Rec P)} {bs : List (B × ℕ)} {m : M} {c : C} {l : Lay M C} → N.go b m σ p ≡ none → Runs N Z b σ ks (rep m c l) p e φ rs bs → Runs N Z b σ ks l p e φ rs bs
+  pub over_end : {b : B} {σ : P} {ks : List (Rec P)} {p e : P} {φ : ℕ} {rs : List (Rec P)} {m : M} {c : C} {l : Lay M C} {bs : List (B × ℕ)} → N.go b m σ p ≡ none → Runs N Z b σ ks (rep m c l) p e φ rs bs → Runs N Z b σ ks l p e φ rs bs
   over_end g (rrep q h d s z w) = none_some (sym g ∙ h)
   over_end g (rend h w) = w
 

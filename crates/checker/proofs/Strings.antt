@@ -129,16 +129,16 @@ module _ (s : List ℕ) (b : Under) (σ : ℕ) (h : byte_at s σ ≡ 34) where
 abbrev Lays : List ℕ → Under → ℕ → Layout → ℕ → ℕ → ℕ → List (Under × ℕ) → Type 0
 Lays s b σ l p e φ bs = Runs (hcl s) (Firm (hcl s)) b σ [] l p e φ [] bs
 
-part_move : {s : List ℕ} {b : Under} {σ p e φ : ℕ} {bs : List (Under × ℕ)} {m : Move} {l : Layout} → Lays s b σ (move m l) p e φ bs → (q : ℕ) × (place (walk s b σ m p) ≡ some q) × Lays s b σ l q e φ bs
-part_move (rmove q g x) = (q, g, x)
+part_move : (s : List ℕ) {b : Under} {σ p e φ : ℕ} {bs : List (Under × ℕ)} {m : Move} {l : Layout} → Lays s b σ (move m l) p e φ bs → (q : ℕ) × (place (walk s b σ m p) ≡ some q) × Lays s b σ l q e φ bs
+part_move s (rmove q g x) = (q, g, x)
 
-part_fork : {s : List ℕ} {b : Under} {σ p e φ : ℕ} {bs : List (Under × ℕ)} {m : Move} {l l' : Layout} → Lays s b σ (fork m l l') p e φ bs
+part_fork : (s : List ℕ) {b : Under} {σ p e φ : ℕ} {bs : List (Under × ℕ)} {m : Move} {l l' : Layout} → Lays s b σ (fork m l l') p e φ bs
     → ((q : ℕ) × (place (walk s b σ m p) ≡ some q) × Lays s b σ l q e φ bs) ⊎ ((place (walk s b σ m p) ≡ none) × Lays s b σ l' p e φ bs)
-part_fork (ryes q g x) = inl (q, g, x)
-part_fork (rno g x) = inr (g, x)
+part_fork s (ryes q g x) = inl (q, g, x)
+part_fork s (rno g x) = inr (g, x)
 
-part_fin : {s : List ℕ} {b : Under} {σ p e φ ψ : ℕ} {bs : List (Under × ℕ)} → Lays s b σ (fin ψ) p e φ bs → (e ≡ p) × (φ ≡ ψ)
-part_fin rfin = (refl, refl)
+part_fin : (s : List ℕ) {b : Under} {σ p e φ ψ : ℕ} {bs : List (Under × ℕ)} → Lays s b σ (fin ψ) p e φ bs → (e ≡ p) × (φ ≡ ψ)
+part_fin s rfin = (refl, refl)
 
 -- behind its opening quote
 abbrev inside : Layout
@@ -231,36 +231,36 @@ module _ (s : List ℕ) (b : Under) (σ : ℕ) (quote : byte_at s σ ≡ 34) whe
     -- its closing quote, behind the run
     closes : (y : Bool) {q : ℕ} → ((text_at quoted s (σ + 1)).escaped ≡ y) × (q ≡ σ + 1 + (text_at quoted s (σ + 1)).width) → Lays s b σ (move (close ∷ []) (fin (cond y 1 0))) q e φ bs → Strung s σ e φ
     closes y {q} (k, z) x =
-        let (c, g, v) = part_move x in
+        let (c, g, v) = part_move s x in
         let shut : place (close_by s σ (σ + 1 + (text_at quoted s (σ + 1)).width) (text_at quoted s (σ + 1)).why) ≡ some c =
         sym (close_is s b σ quote (σ + 1)) ∙ ap (λ (n : ℕ). place (walk s b σ (close ∷ []) n)) (sym z) ∙ g in
         let (w, f) = quote_alone s σ (σ + 1 + (text_at quoted s (σ + 1)).width) c (text_at quoted s (σ + 1)).why (quoted_why s (σ + 1)) shut in
-        let (h, u) = part_fin v in
+        let (h, u) = part_fin s v in
         record { quote = quote; why = w; end = h ∙ f; flag = u ∙ sym (rw k) }
 
     parts : {p : ℕ} → p ≡ σ + 1 → Lays s b σ inside p e φ bs → Strung s σ e φ
-    parts {p} z x = go (part_fork x)
+    parts {p} z x = go (part_fork s x)
       where
         go : ((q : ℕ) × (place (walk s b σ (run false ∷ []) p) ≡ some q) × Lays s b σ (move (close ∷ []) (fin 0)) q e φ bs)
             ⊎ ((place (walk s b σ (run false ∷ []) p) ≡ none) × Lays s b σ (move (run true ∷ []) (move (close ∷ []) (fin 1))) p e φ bs)
             → Strung s σ e φ
         go (inl (q, g, y)) = closes false (ran false z g) y
-        go (inr (g, y)) = let (q, f, v) = part_move y in closes true (ran true z f) v
+        go (inr (g, y)) = let (q, f, v) = part_move s y in closes true (ran true z f) v
 
 strung : {s : List ℕ} {b : Under} {σ e φ : ℕ} {bs : List (Under × ℕ)} → Lays s b σ string_lay σ e φ bs → Strung s σ e φ
 strung {s} {b} {σ} x =
-    let (q, g, y) = part_move x in
+    let (q, g, y) = part_move s x in
     let quote = quote_of s b σ σ q g in
     parts s b σ quote (some_some (sym g ∙ opened s b σ quote)) y
 
-first_of : {s : List ℕ} {b : Under} {n : ℕ} {r : Rec ℕ} {bs : List (Under × ℕ)} → Local (hcl s) (b, n) r [] bs
+first_of : (s : List ℕ) {b : Under} {n : ℕ} {r : Rec ℕ} {bs : List (Under × ℕ)} → Local (hcl s) (b, n) r [] bs
     → (k : ℕ) × (named (hcl s) n k ≡ r.kind) × Lays s b r.start (layout_of k) r.start r.end r.flag bs
-first_of (first k e f x) = (k, e, x)
+first_of s (first k e f x) = (k, e, x)
 
 local_strung : {s : List ℕ} {b : Under} {bs : List (Under × ℕ)} (o : Record) → o.kind ≡ 6 → Local (hcl s) (b, 0) (row_of o).rec [] bs → Strung s o.start o.end o.flag
 unfolding layouts
 local_strung {s} {b} {bs} o six l =
-    let (k, e, x) = first_of l in
+    let (k, e, x) = first_of s l in
     strung (subst (λ (n : ℕ). Lays s b o.start (layout_of n) o.start o.end o.flag bs) (e ∙ six) x)
 
 not_broken : (y : Why) → y ≡ why.Quote → is_broken y ≡ false

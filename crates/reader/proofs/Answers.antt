@@ -173,8 +173,8 @@ module _ {s : List ℕ} {a : Under} {k p i u : ℕ} {b b' x x' : List ℕ} {e n 
         high = high;
       }
 
-pub head_no : {s : List ℕ} {a : Under} {k p z y : ℕ} → pick_at s a p ≡ some k → FailIn (grammar (hcl s)) (mid (hcl s) a p [] k (layout_of k) p) z y → Heads s a p (halt z y)
-head_no {s} {a} {k} {p} {z} {y} q h = subst (λ (o : Option ℕ). FailIn (grammar (hcl s)) (from (hcl s) o a p [] p) z y) (sym q) h
+pub head_no : (s : List ℕ) {a : Under} {k p z y : ℕ} → pick_at s a p ≡ some k → FailIn (grammar (hcl s)) (mid (hcl s) a p [] k (layout_of k) p) z y → Heads s a p (halt z y)
+head_no s {a} {k} {p} {z} {y} q h = subst (λ (o : Option ℕ). FailIn (grammar (hcl s)) (from (hcl s) o a p [] p) z y) (sym q) h
 
 -- what stands first is tight enough for every place
 pub fits_all : (s : List ℕ) (a : Under) (k p j : ℕ) → pick_at s a p ≡ some k → j < tight_of k → fit (hcl s) j (pick_at s a p) ≡ pick_at s a p
@@ -197,8 +197,8 @@ module _ {s : List ℕ} (U : Sane (hcl s)) {a : Under} {k p i u : ℕ} {b b' x x
     high = g.high;
   }
 
-pub head_whole_no : {s : List ℕ} {a : Under} {k p z y : ℕ} → pick_at s a p ≡ some k → 8 < tight_of k → Heads s a p (halt z y) → Climbs s a 8 p (halt z y)
-head_whole_no {s} {a} {k} {p} q tight h = part_led_no (hcl s) (fits_all s a k p 8 q tight) h
+pub head_whole_no : (s : List ℕ) {a : Under} {k p z y : ℕ} → pick_at s a p ≡ some k → 8 < tight_of k → Heads s a p (halt z y) → Climbs s a 8 p (halt z y)
+head_whole_no s {a} {k} {p} q tight h = part_led_no (hcl s) (fits_all s a k p 8 q tight) h
 
 -- ---- what grows from an operand, by operators: for each of some levels J that are taken
 

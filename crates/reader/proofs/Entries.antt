@@ -69,7 +69,7 @@ module _ (s : List ℕ) (left : ℕ) (ks : List ℕ) (i u p : ℕ) where
   item_start b x h = stage_start (λ _. []) (omega arith) h
 
   pub item_fails : {z q : ℕ} → FailIn (grammar (hcl s)) (mid (hcl s) in_item p [] 13 (layout_of 13) p) z q → Climbs s in_item 8 p (halt z q)
-  item_fails f = head_whole_no picked (omega arith) (head_no picked f)
+  item_fails f = head_whole_no s picked (omega arith) (head_no s picked f)
 
   -- the key, its record named anew
   pub item_key : {b b' b'' x x' : List ℕ} {e n t : ℕ} → Good (Climbs s (under left false an_expression) 0 p) s i u p b b' x x' e n t → b'' ≡ bared s b' i n p e → p ≤ length s → Item b b'' x x' sign_lay e n t 0

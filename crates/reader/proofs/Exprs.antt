@@ -44,7 +44,7 @@ module _ {s : List ℕ} {left : ℕ} {lines : Bool} {k p i u K : ℕ} {b b' x x'
       → Said (Heads s (under left lines (want_in k 0)) p) s i u K p b b' x x' y y' r
   head_as (ok z) h (e, t, v) =
       from_good (done_head f g q (0, []) refl refl (done m.made (ap (λ (w : Step). w.kind) e)) m.room m.spent m.high) (step_is r e) m.kept
-  head_as (halt n o) h (e, pos) = refused n o e (head_no q (h (0, []))) pos (omega (arith, m.room, ap (λ (w : Step). w.end) e)) (omega (arith, m.high, ap (λ (w : Step). w.end) e)) m.kept
+  head_as (halt n o) h (e, pos) = refused n o e (head_no s q (h (0, []))) pos (omega (arith, m.room, ap (λ (w : Step). w.end) e)) (omega (arith, m.high, ap (λ (w : Step). w.end) e)) m.kept
   head_as stuck h t = absurd t
 
   pub made_head : Said (Heads s (under left lines (want_in k 0)) p) s i u K p b b' x x' y y' r
@@ -55,7 +55,7 @@ climb_as : (s : List ℕ) (a : Under) (k p i u K : ℕ) (b b' x x' y y' : List �
     → Heads s a p o → told_as s i u b b' x x' r o → Said (Climbs s a 8 p) s i u K p b b' x x' y y' r
 climb_as s a k p i u K b b' x x' y y' r q tight w (ok t) h (e, f₁, f₂, f₃) = from_good (head_whole (sane s) q tight (good w (ap (λ (z : Step). z.kind) e))) (step_is r e) w.kept
 climb_as s a k p i u K b b' x x' y y' r q tight w (halt n o) h (e, pos) =
-    refused n o e (head_whole_no q tight h) pos (omega (arith, w.room, ap (λ (z : Step). z.end) e)) (omega (arith, w.high, ap (λ (z : Step). z.end) e)) w.kept
+    refused n o e (head_whole_no s q tight h) pos (omega (arith, w.room, ap (λ (z : Step). z.end) e)) (omega (arith, w.high, ap (λ (z : Step). z.end) e)) w.kept
 climb_as s a k p i u K b b' x x' y y' r q tight w stuck h t = absurd t
 
 pub head_climb : {s : List ℕ} {a : Under} {k p i u K : ℕ} {b b' x x' y y' : List ℕ} {r : Step} → pick_at s a p ≡ some k → 8 < tight_of k → Said (Heads s a p) s i u K p b b' x x' y y' r

@@ -147,7 +147,7 @@ module _ (s : List ℕ) (left : ℕ) (lines : Bool) (i u p : ℕ) where
 
   module _ (pick : pick_at s in_object p ≡ some 12) (within : p ≤ length s) where
     object_fails : {z q : ℕ} → FailIn (grammar (hcl s)) start z q → Heads s in_object p (halt z q)
-    object_fails f = head_no pick f
+    object_fails f = head_no s pick f
 
     pub inside_brace : p < length s
     inside_brace = inside (λ x. eqb x 123) s p refl (object_brace s left lines p pick)

@@ -66,7 +66,7 @@ module _ {s : List ℕ} {left : ℕ} {lines : Bool} {p i u k : ℕ} {b b' x x' y
   interp_good z = head_whole (sane s) q (omega arith) (done_head refl refl q (σ, []) refl refl (done w.made z) w.room w.spent w.high)
 
   interp_no : ¬ (r.kind ≡ 0) → FailAt (grammar (hcl s)) (under left lines (a_piece σ), 8) p r.kind r.end
-  interp_no z = head_whole_no q (omega arith) (head_no q ((halted w.made z).fails (σ, [])))
+  interp_no z = head_whole_no s q (omega arith) (head_no s q ((halted w.made z).fails (σ, [])))
 
 -- ---- how a text ends
 

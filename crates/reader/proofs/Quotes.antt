@@ -43,12 +43,12 @@ head_said {s} {a} {k} {p} {i} {u} {κ} {b} {b'} {x} {x'} {y} {y'} {r} f g q made
     go (suc n) e =
         let h = halted made (λ z. omega arith) in
         let none : r.count ≡ 0 = ap (λ (o : Step). o.count) h.is in
-        refused r.kind r.end h.is (head_no q (h.fails tt)) h.kind (omega arith) high kept
+        refused r.kind r.end h.is (head_no s q (h.fails tt)) h.kind (omega arith) high kept
 
 -- ---- what stands before the text
 
 -- the bytes before the text are moves of the same production
-module _ {X : Type 0} {s : List ℕ} {a : X → Under} {σ : ℕ} {ks : X → List (Rec ℕ)} {k : ℕ} {l l' : Layout} {p q : ℕ} where
+module _ {X : Type 0} (s : List ℕ) {a : X → Under} {σ : ℕ} {ks : X → List (Rec ℕ)} {k : ℕ} {l l' : Layout} {p q : ℕ} where
   made_as_lem : ((ξ : X) → Way (hcl s) (mid (hcl s) (a ξ) σ (ks ξ) k l p) nil (a ξ) σ (ks ξ) k l' q) → (o : Outcome ℕ (Body ℕ)) → ((ξ : X) → Makes s (a ξ) σ (ks ξ) k l' q o) → (ξ : X) → Makes s (a ξ) σ (ks ξ) k l p o
   made_as_lem w (ok y) g ξ = (w ξ).fits y.flag y.end y.kids (g ξ)
   made_as_lem w (halt n v) g ξ = (w ξ).fails n v (g ξ)
@@ -82,7 +82,7 @@ module _ (s : List ℕ) (left : ℕ) (lines : Bool) (p : ℕ) (q : pick_at s (un
   quoted_said m =
       let a = under left lines an_expression in
       head_said refl refl q
-      (made_before (λ ξ. way_move (hcl s) (way_start (hcl s) a p [] 7 template_lay p) (ap place (plain_yes s a p p (34 ∷ []) (quote_stands s p (pick_template s left lines p q))))) m.made)
+      (made_before s (λ ξ. way_move (hcl s) (way_start (hcl s) a p [] 7 template_lay p) (ap place (plain_yes s a p p (34 ∷ []) (quote_stands s p (pick_template s left lines p q))))) m.made)
       m.room m.spent m.high m.kept
 
 -- ---- a heredoc
@@ -148,7 +148,7 @@ module _ (s : List ℕ) (left : ℕ) (lines : Bool) (p : ℕ) (q : pick_at s (un
         let same : no (cond (is_foreign (byte_at s o.at)) Foreign Unexpected) o.at ≡ no z v = sym (unexpected_is s o.at) ∙ f in
         let at : o.at ≡ v = cc in
         let kind : cond (is_foreign (byte_at s o.at)) Foreign Unexpected ≡ z = cc in
-        refused z v e (head_no q (rw stuck at (way_stop (hcl s) here.way (ap place stuck)))) (positive (is_foreign (byte_at s o.at)) z kind) (omega (arith, h.low)) (omega (arith, h.high)) kept
+        refused z v e (head_no s q (rw stuck at (way_stop (hcl s) here.way (ap place stuck)))) (positive (is_foreign (byte_at s o.at)) z kind) (omega (arith, h.low)) (omega (arith, h.high)) kept
       where
         positive : (b : Bool) (z : ℕ) → cond b Foreign Unexpected ≡ z → 1 ≤ z
         positive true z e = omega arith
@@ -193,6 +193,6 @@ module _ (s : List ℕ) (left : ℕ) (lines : Bool) (p : ℕ) (q : pick_at s (un
           let d : flag_of here.dash ≡ flag = ap flag_of (sym (here.word.dash good)) ∙ f in
           let gone : walk s a₀ p (ident ∷ ending ∷ []) here.from ≡ to o.at = here.word.walks ∙ rw good in
           head_said refl refl q
-          (made_before (λ ξ. way_move (hcl s) (subst (λ (v : ℕ). Way (hcl s) (mid (hcl s) a₀ p [] 8 heredoc_lay p) nil a₀ p [] 8 (move (ident ∷ ending ∷ []) (text_lay v)) here.from) d here.way)
+          (made_before s (λ ξ. way_move (hcl s) (subst (λ (v : ℕ). Way (hcl s) (mid (hcl s) a₀ p [] 8 heredoc_lay p) nil a₀ p [] 8 (move (ident ∷ ending ∷ []) (text_lay v)) here.from) d here.way)
           (ap place gone)) m.made)
           m.room m.spent m.high m.kept

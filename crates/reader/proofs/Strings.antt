@@ -115,7 +115,7 @@ module _ {s : List ℕ} {i u p d e : ℕ} {r : Run} {c : Step} (w : Quoting s i 
     string_no f =
         let g = refused_as c (close_by s p r.end r.why) end_is fits_in_lem.refused f in
         let stuck : walk s a₀ p (close ∷ []) r.end ≡ no c.kind c.end = close_by_lem s a₀ p r.end r.why unit_here ∙ g.no in
-        refused c.kind c.end g.is (head_no q (rw stuck at (way_stop (hcl s) (way_string a₀) (ap place stuck)))) g.kind c_low string_high (kept_same y)
+        refused c.kind c.end g.is (head_no s q (rw stuck at (way_stop (hcl s) (way_string a₀) (ap place stuck)))) g.kind c_low string_high (kept_same y)
 
     string_yes : {b b' x x' : List ℕ} {m : Step} → c.kind ≡ 0 → m ≡ step_of 0 c.end 1 (cond r.escaped r.length 0)
         → b' ≡ put_at b i (record_of 6 (flag_of r.escaped) p c.end 1 (span 6 (flag_of r.escaped) p c.end u r.length)) → x' ≡ cond r.escaped (laid x u (text_at quoted s (p + 1)).bytes) x

@@ -176,7 +176,7 @@ module _ (s : List ℕ) (left : ℕ) (lines : Bool) (i u p k : ℕ) (b x : List 
 
   -- all of Terms from FailIn
   failing : {x y : ℕ} → FailIn (grammar (hcl s)) (mid (hcl s) Here p [] k (layout_of k) p) x y → Terms s Here p (halt x y)
-  failing f j low = part_led_no (hcl s) (fits_all s Here k p j q (omega (arith, n.firm))) (head_no q f)
+  failing f j low = part_led_no (hcl s) (fits_all s Here k p j q (omega (arith, n.firm))) (head_no s q f)
 
   pub unary_deep : left ≡ 0 → Terms s Here p (halt Deep p)
   unary_deep z = failing (stage_stop start (λ _. opens_deep n Here p z) tt)

@@ -57,19 +57,19 @@ pub node-requires : goal.node-requires
 node-requires c = (record { short = c.loop-i.invariant.0.ready.short; within = omega (arith, c.loop-i.invariant.0.ready.rows, c.loop-i.invariant.4.few, c.if-i-eq0.false); small = omega (arith, c.loop-i.invariant.0.ready.root.small, c.loop-i.invariant.4.few); marked = omega (arith, c.loop-i.invariant.0.marked, c.loop-i.invariant.1, c.loop-i.invariant.4.few, c.if-i-eq0.false); deep = omega (arith, c.loop-i.invariant.0.deep, c.loop-i.invariant.2, c.loop-i.invariant.4.few, c.if-i-eq0.false); keyed = omega (arith, c.loop-i.invariant.0.keyed, c.loop-i.invariant.3, c.loop-i.invariant.4.few, c.if-i-eq0.false) }, record { room = omega (arith, c.loop-i.invariant.6, c.loop-i.invariant.4.few, c.if-i-eq0.false); key = c.loop-i.invariant.7 })
 
 pub shape_of-marks-then-not-node : goal.shape_of-marks-then-not-node
-shape_of-marks-then-not-node c = c.node.auto.depths ∙ c.loop-i.invariant.1
+shape_of-marks-then-not-node c = c.node.auto.marks ∙ c.loop-i.invariant.1
 
 pub shape_of-depths-then-not-node : goal.shape_of-depths-then-not-node
-shape_of-depths-then-not-node c = c.node.auto.keys ∙ c.loop-i.invariant.2 ∙ length-set c.args.depths.now (c.args.n - 1) 128
+shape_of-depths-then-not-node c = c.node.auto.depths ∙ c.loop-i.invariant.2 ∙ length-set c.args.depths.now (c.args.n - 1) 128
 
 pub shape_of-keys-then-not-node : goal.shape_of-keys-then-not-node
-shape_of-keys-then-not-node c = c.node.auto.told ∙ c.loop-i.invariant.3
+shape_of-keys-then-not-node c = c.node.auto.keys ∙ c.loop-i.invariant.3
 
 pub shape_of-told-then-not-node : goal.shape_of-told-then-not-node
-shape_of-told-then-not-node c = c.node.auto.1.1.1.1.1.1.1.0 ∙ c.loop-i.invariant.5
+shape_of-told-then-not-node c = c.node.auto.told ∙ c.loop-i.invariant.5
 
 pub returns-then-not-node : goal.returns-then-not-node
 returns-then-not-node c = checks_no (row_no _ _ _ _ c.loop-i.invariant.4 (omega (arith, c.if-i-eq0.false)) c.loop-i.invariant.0.ready.rows (not-true _ c.if-not-node.true-raw) c.node.ensures.0)
 
 pub loop-i-preserved : goal.loop-i-preserved
-loop-i-preserved c = (c.loop-i.invariant.0, c.node.auto.depths ∙ c.loop-i.invariant.1, c.node.auto.keys ∙ c.loop-i.invariant.2, c.node.auto.told ∙ c.loop-i.invariant.3, row_on _ _ _ _ c.loop-i.invariant.4 (omega (arith, c.if-i-eq0.false)) c.loop-i.invariant.0.ready.rows (not-false _ c.if-not-node.false-raw) c.node.ensures.0 (not-false _ c.if-not-x.false) c.columns-x.ensures, c.node.auto.1.1.1.1.1.1.1.0 ∙ c.loop-i.invariant.5, omega (arith, c.node.auto.1.1.1.1.1.1.1.0, c.loop-i.invariant.6), c.node.ensures.1)
+loop-i-preserved c = (c.loop-i.invariant.0, c.node.auto.marks ∙ c.loop-i.invariant.1, c.node.auto.depths ∙ c.loop-i.invariant.2, c.node.auto.keys ∙ c.loop-i.invariant.3, row_on _ _ _ _ c.loop-i.invariant.4 (omega (arith, c.if-i-eq0.false)) c.loop-i.invariant.0.ready.rows (not-false _ c.if-not-node.false-raw) c.node.ensures.0 (not-false _ c.if-not-x.false) c.columns-x.ensures, c.node.auto.told ∙ c.loop-i.invariant.5, omega (arith, c.node.auto.told, c.loop-i.invariant.6), c.node.ensures.1)

@@ -1,7 +1,8 @@
-use mathlib.Core.Logic.{⊎_map}
 use Rattle.checker.proofs.Callings.{first_none, first_dollar, first_always, first_key, first_part, first_term}
 use borrow.Author.Rules.{rules}
+use Rattle.std.proofs.Common.{inl, inr, arith}
 use Rattle.checker.proofs.kinds.first_at.Goals as goal
+use Rattle.checker.proofs.kinds.first_at.Goals.{in_default-via-then-kind-lt38, in_default-via-else-kind-lt38+else-kind-lt43}
 
 pub returns-in-0 : goal.returns-in-0
 returns-in-0 c = first_none _ _ _ c.in-0.is
@@ -19,4 +20,4 @@ pub returns-in-38-to-42 : goal.returns-in-38-to-42
 returns-in-38-to-42 c = first_part _ _ _ c.in-38-to-42.if-kind-lt38-own.false c.in-38-to-42.if-kind-lt43-own.true c.part_at.ensures
 
 pub returns-in_default : goal.returns-in_default
-returns-in_default c = first_term _ _ _ c.in_default-1.rest.0.0.0.1 c.in_default-1.rest.0.0.1 c.in_default-1.rest.0.1 c.in_default-1.rest.1 (⊎_map (λ x. x.taken) (λ x. x.1.left) c.in_default.branch) c.term_at-in_default.ensures
+returns-in_default c = first_term _ _ _ c.in_default-1.rest.0.0.0.1 c.in_default-1.rest.0.0.1 c.in_default-1.rest.0.1 c.in_default-1.rest.1 (elim c.in_default.branch [ in_default-via-then-kind-lt38 w ↦ inl (omega arith) | in_default-via-else-kind-lt38+else-kind-lt43 w ↦ inr (omega arith) ]) c.term_at-in_default.ensures

@@ -9,7 +9,7 @@ pub returns-then-c-ne0 : goal.returns-then-c-ne0
 returns-then-c-ne0 c = beyond_gap c.space-c.ensures c.if-c-ne0.true
 
 pub overflow_add-c : goal.overflow_add-c
-overflow_add-c c = omega (arith, beyond_inside c.space-c.ensures c.if-c-ne0.false (sym c.one_at.ensures ∙ c.if-one_at.true), c.type_inv.0.0)
+overflow_add-c c = omega (arith, beyond_inside c.space-c.ensures c.if-c-ne0.false (sym c.one_at.ensures ∙ c.if-one_at.true))
 
 pub returns-then-one_at : goal.returns-then-one_at
 returns-then-one_at c = beyond_comma c.space-c.ensures c.if-c-ne0.false (sym c.one_at.ensures ∙ c.if-one_at.true) c.space.ensures

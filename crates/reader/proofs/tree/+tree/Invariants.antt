@@ -19,7 +19,7 @@ use Rattle.reader.proofs.ObjectTurns.{Turn as TurnObjectTurns, stood, close_room
 use Rattle.reader.proofs.Parts.{Parting, parting_start, parts_there, parts_gap, parts_cut, parts_else, parts_end, parts_closing, parts_no, parts_far, parts_more, part_dot, part_square, part_none, part_made, part_bare, parts_as, parts_laying}
 use Rattle.reader.proofs.Pieces.{Round, round_start, round_piece, round_piecing, round_asked, round_interp, round_interp_no, round_far, round_ends_no, round_closes, round_closing}
 use Rattle.reader.proofs.Quotes.{heredoc_no, heredoc_asked, heredoc_texting, heredoc_said, quoted_asked, quoted_texting, quoted_said}
-use Rattle.reader.proofs.Ranks.{rank_most, rank_part, rank_condition, rank_other}
+use Rattle.reader.proofs.Ranks.{sub_rank, rank_most, rank_part, rank_condition, rank_other}
 use Rattle.reader.proofs.Strings.{quoting}
 use Rattle.reader.proofs.Subs.{prim_term, prim_laid, no_string, no_template, sub_name, sub_condition, sub_part_none, sub_part, expression_bound, sub_expression}
 use Rattle.reader.proofs.Terms.{term_picked, term_firm, term_primary, term_inside, term_deep, term_space, term_under_no, term_under_room, term_under}
