@@ -24,10 +24,10 @@ pub overflow_mul-m : goal.overflow_mul-m
 overflow_mul-m c = record { fits = omega (arith, c.if-m-nodes.false, c.whole-m.ensures.room, c.whole-m.ensures.high, c.requires.0.small) }
 
 pub shape_of-rows : goal.shape_of-rows
-shape_of-rows c = c.whole-m.auto.text
+shape_of-rows c = c.whole-m.auto.nodes
 
 pub shape_of-runs : goal.shape_of-runs
-shape_of-runs c = c.whole-m.auto.keys
+shape_of-runs c = c.whole-m.auto.text
 
 pub returns : goal.returns
-returns c = read_copied c.requires.0.small (sym c.requires.0.whole) refl c.whole-m.ensures c.if-m-ne0.false (omega (arith, c.if-m-nodes.false)) (omega (arith, c.if-m-text.false)) (omega (arith, c.if-m-rows.false, c.whole-m.auto.text)) (omega (arith, c.if-m-runs.false, c.whole-m.auto.keys)) c.numbers.ensures c.bytes.ensures c.numbers.auto.table c.bytes.auto.1.0 c.told-2.ensures
+returns c = read_copied c.requires.0.small (sym c.requires.0.whole) refl c.whole-m.ensures c.if-m-ne0.false (omega (arith, c.if-m-nodes.false)) (omega (arith, c.if-m-text.false)) (omega (arith, c.if-m-rows.false, c.whole-m.auto.nodes)) (omega (arith, c.if-m-runs.false, c.whole-m.auto.text)) c.numbers.ensures c.bytes.ensures c.numbers.auto.to c.bytes.auto.to c.told-2.ensures

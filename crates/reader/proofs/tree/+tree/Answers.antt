@@ -35,6 +35,7 @@ use mathlib.Core.Option.{some}
 use mathlib.Core.Path.{ap, ◌∙◌, ◌≡◌, refl, subst, sym}
 use native.Mathlib.Omega.{arith}
 use Rattle.reader.proofs.tree.+tree.Goals as goal
+use Rattle.reader.proofs.tree.+tree.Goals.{laid-then-x-ne-KID+else-w-ne0+else-x-ne-REP, laid-else-x-ne-KID}
 
 -- ---- expr
 
@@ -545,9 +546,13 @@ pub laid-overflow_add-u : goal.laid-overflow_add-u
 laid-overflow_add-u t c = omega (arith, c.loop-nodes.invariant.0, c.loop-nodes.invariant.2.low, c.loop-nodes.invariant.2.spent, c.loop-nodes.invariant.2.high)
 
 pub laid-sub-m-requires : goal.laid-sub-m-requires
-laid-sub-m-requires t c = (
-  ⊎_elim (λ a. omega (arith, a, rank_most c.instr-x.result.class, aim_high c.loop-nodes.invariant.2 c.instr-x.ensures ?)) (λ a. omega (arith, a, c.loop-nodes.invariant.2.low, aim_low c.loop-nodes.invariant.2 c.instr-x.ensures ?)) (aim_lead c.loop-nodes.invariant.2 c.instr-x.ensures ?),
-  (omega (arith, c.loop-nodes.invariant.0, c.loop-nodes.invariant.2.low, c.loop-nodes.invariant.2.spent, c.loop-nodes.invariant.3.long, aim_low c.loop-nodes.invariant.2 c.instr-x.ensures ?, aim_high c.loop-nodes.invariant.2 c.instr-x.ensures ?), c.instr-x.ensures.known),
+laid-sub-m-requires t c = let aim : Aim c.loop-nodes.invariant.2 c.instr-x.ensures c.if-x-ne-KID.at c.if-x-ne-KID.further =
+        elim c.if-x-ne-KID.branch [
+        laid-then-x-ne-KID+else-w-ne0+else-x-ne-REP w ↦ aim_past c.loop-nodes.invariant.2 c.instr-x.ensures w.if-x-ne-REP.false w.walk-w.ensures w.if-w-ne0.false w.at-is w.further-is
+        | laid-else-x-ne-KID w ↦ aim_kid c.loop-nodes.invariant.2 c.instr-x.ensures w.if-x-ne-KID.false w.at-is w.further-is ] in
+    (
+  ⊎_elim (λ a. omega (arith, a, rank_most c.instr-x.result.class, aim_high c.loop-nodes.invariant.2 c.instr-x.ensures aim)) (λ a. omega (arith, a, c.loop-nodes.invariant.2.low, aim_low c.loop-nodes.invariant.2 c.instr-x.ensures aim)) (aim_lead c.loop-nodes.invariant.2 c.instr-x.ensures aim),
+  (omega (arith, c.loop-nodes.invariant.0, c.loop-nodes.invariant.2.low, c.loop-nodes.invariant.2.spent, c.loop-nodes.invariant.3.long, aim_low c.loop-nodes.invariant.2 c.instr-x.ensures aim, aim_high c.loop-nodes.invariant.2 c.instr-x.ensures aim), c.instr-x.ensures.known),
 )
 
 pub laid-shape_of-nodes-then-m-ne0 : goal.laid-shape_of-nodes-then-m-ne0
@@ -560,19 +565,39 @@ pub laid-shape_of-keys-then-m-ne0 : goal.laid-shape_of-keys-then-m-ne0
 laid-shape_of-keys-then-m-ne0 t c = omega (arith, c.sub-m.auto.keys, c.loop-nodes.invariant.3.long)
 
 pub laid-returns-then-m-ne0 : goal.laid-returns-then-m-ne0
-laid-returns-then-m-ne0 t c = aim_no c.loop-nodes.invariant.2 c.instr-x.ensures ? c.sub-m.ensures c.if-m-ne0.true (kept_join c.loop-nodes.invariant.3 c.sub-m.ensures.said.kept)
+laid-returns-then-m-ne0 t c = let aim : Aim c.loop-nodes.invariant.2 c.instr-x.ensures c.if-x-ne-KID.at c.if-x-ne-KID.further =
+        elim c.if-x-ne-KID.branch [
+        laid-then-x-ne-KID+else-w-ne0+else-x-ne-REP w ↦ aim_past c.loop-nodes.invariant.2 c.instr-x.ensures w.if-x-ne-REP.false w.walk-w.ensures w.if-w-ne0.false w.at-is w.further-is
+        | laid-else-x-ne-KID w ↦ aim_kid c.loop-nodes.invariant.2 c.instr-x.ensures w.if-x-ne-KID.false w.at-is w.further-is ] in
+    aim_no c.loop-nodes.invariant.2 c.instr-x.ensures aim c.sub-m.ensures c.if-m-ne0.true (kept_join c.loop-nodes.invariant.3 c.sub-m.ensures.said.kept)
 
 pub laid-overflow_add-n : goal.laid-overflow_add-n
-laid-overflow_add-n t c = omega (arith, c.loop-nodes.invariant.0, c.loop-nodes.invariant.2.low, aim_low c.loop-nodes.invariant.2 c.instr-x.ensures ?, c.sub-m.ensures.said.room, c.sub-m.ensures.said.high)
+laid-overflow_add-n t c = let aim : Aim c.loop-nodes.invariant.2 c.instr-x.ensures c.if-x-ne-KID.at c.if-x-ne-KID.further =
+        elim c.if-x-ne-KID.branch [
+        laid-then-x-ne-KID+else-w-ne0+else-x-ne-REP w ↦ aim_past c.loop-nodes.invariant.2 c.instr-x.ensures w.if-x-ne-REP.false w.walk-w.ensures w.if-w-ne0.false w.at-is w.further-is
+        | laid-else-x-ne-KID w ↦ aim_kid c.loop-nodes.invariant.2 c.instr-x.ensures w.if-x-ne-KID.false w.at-is w.further-is ] in
+    omega (arith, c.loop-nodes.invariant.0, c.loop-nodes.invariant.2.low, aim_low c.loop-nodes.invariant.2 c.instr-x.ensures aim, c.sub-m.ensures.said.room, c.sub-m.ensures.said.high)
 
 pub laid-overflow_add-t : goal.laid-overflow_add-t
-laid-overflow_add-t t c = omega (arith, c.loop-nodes.invariant.0, c.loop-nodes.invariant.2.spent, aim_low c.loop-nodes.invariant.2 c.instr-x.ensures ?, c.sub-m.ensures.said.spent, c.sub-m.ensures.said.high)
+laid-overflow_add-t t c = let aim : Aim c.loop-nodes.invariant.2 c.instr-x.ensures c.if-x-ne-KID.at c.if-x-ne-KID.further =
+        elim c.if-x-ne-KID.branch [
+        laid-then-x-ne-KID+else-w-ne0+else-x-ne-REP w ↦ aim_past c.loop-nodes.invariant.2 c.instr-x.ensures w.if-x-ne-REP.false w.walk-w.ensures w.if-w-ne0.false w.at-is w.further-is
+        | laid-else-x-ne-KID w ↦ aim_kid c.loop-nodes.invariant.2 c.instr-x.ensures w.if-x-ne-KID.false w.at-is w.further-is ] in
+    omega (arith, c.loop-nodes.invariant.0, c.loop-nodes.invariant.2.spent, aim_low c.loop-nodes.invariant.2 c.instr-x.ensures aim, c.sub-m.ensures.said.spent, c.sub-m.ensures.said.high)
 
 pub laid-loop-nodes-smaller : goal.laid-loop-nodes-smaller
-laid-loop-nodes-smaller t c = omega (arith, aim_far c.loop-nodes.invariant.2 c.instr-x.ensures ? c.sub-m.ensures c.if-m-ne0.false, c.sub-m.ensures.said.high)
+laid-loop-nodes-smaller t c = let aim : Aim c.loop-nodes.invariant.2 c.instr-x.ensures c.if-x-ne-KID.at c.if-x-ne-KID.further =
+        elim c.if-x-ne-KID.branch [
+        laid-then-x-ne-KID+else-w-ne0+else-x-ne-REP w ↦ aim_past c.loop-nodes.invariant.2 c.instr-x.ensures w.if-x-ne-REP.false w.walk-w.ensures w.if-w-ne0.false w.at-is w.further-is
+        | laid-else-x-ne-KID w ↦ aim_kid c.loop-nodes.invariant.2 c.instr-x.ensures w.if-x-ne-KID.false w.at-is w.further-is ] in
+    omega (arith, aim_far c.loop-nodes.invariant.2 c.instr-x.ensures aim c.sub-m.ensures c.if-m-ne0.false, c.sub-m.ensures.said.high)
 
 pub laid-loop-nodes-preserved : goal.laid-loop-nodes-preserved
-laid-loop-nodes-preserved t c = (c.loop-nodes.invariant.0, c.loop-nodes.invariant.1, aim_yes c.loop-nodes.invariant.2 c.instr-x.ensures ? c.sub-m.ensures c.if-m-ne0.false, kept_join c.loop-nodes.invariant.3 c.sub-m.ensures.said.kept, (c.sub-m.auto.nodes ∙ c.loop-nodes.invariant.4), (c.sub-m.auto.text ∙ c.loop-nodes.invariant.5))
+laid-loop-nodes-preserved t c = let aim : Aim c.loop-nodes.invariant.2 c.instr-x.ensures c.if-x-ne-KID.at c.if-x-ne-KID.further =
+        elim c.if-x-ne-KID.branch [
+        laid-then-x-ne-KID+else-w-ne0+else-x-ne-REP w ↦ aim_past c.loop-nodes.invariant.2 c.instr-x.ensures w.if-x-ne-REP.false w.walk-w.ensures w.if-w-ne0.false w.at-is w.further-is
+        | laid-else-x-ne-KID w ↦ aim_kid c.loop-nodes.invariant.2 c.instr-x.ensures w.if-x-ne-KID.false w.at-is w.further-is ] in
+    (c.loop-nodes.invariant.0, c.loop-nodes.invariant.1, aim_yes c.loop-nodes.invariant.2 c.instr-x.ensures aim c.sub-m.ensures c.if-m-ne0.false, kept_join c.loop-nodes.invariant.3 c.sub-m.ensures.said.kept, (c.sub-m.auto.nodes ∙ c.loop-nodes.invariant.4), (c.sub-m.auto.text ∙ c.loop-nodes.invariant.5))
 
 -- ---- part
 
@@ -1114,7 +1139,7 @@ pub pieces-loop-q-smaller-then-r-q : goal.pieces-loop-q-smaller-then-r-q
 pieces-loop-q-smaller-then-r-q t c = omega (arith, c.run_at-r.ensures, c.if-r-q.true, c.loop-q.invariant.2.high)
 
 pub pieces-loop-q-preserved-then-r-q : goal.pieces-loop-q-preserved-then-r-q
-pieces-loop-q-preserved-then-r-q t c = (c.loop-q.invariant.0, c.loop-q.invariant.1, round_piece c.loop-q.invariant.2 c.loop-q.invariant.1 c.run_at-r.ensures c.if-r-q.true c.piece-v.ensures, c.piece-v.auto.text ∙ c.loop-q.invariant.3, c.piece-v.auto.text ∙ c.loop-q.invariant.4)
+pieces-loop-q-preserved-then-r-q t c = (c.loop-q.invariant.0, c.loop-q.invariant.1, round_piece c.loop-q.invariant.2 c.loop-q.invariant.1 c.run_at-r.ensures c.if-r-q.true c.piece-v.ensures, c.piece-v.auto.nodes ∙ c.loop-q.invariant.3, c.piece-v.auto.text ∙ c.loop-q.invariant.4)
 
 pub pieces-ends-c-requires : goal.pieces-ends-c-requires
 pieces-ends-c-requires t c = omega (arith, c.loop-q.invariant.0, c.loop-q.invariant.2)
