@@ -10,7 +10,7 @@ const LIBRARIES: [&str; 2] = ["capi", "capicheck"];
 
 fn main() {
     let root = PathBuf::from(env::var("CARGO_MANIFEST_DIR").unwrap_or_default()).join("../..");
-    let sources = [root.join("crates.txt"), root.join("crates")];
+    let sources = sources(&root);
     for source in &sources {
         println!("cargo:rerun-if-changed={}", source.display());
     }
@@ -27,6 +27,13 @@ fn main() {
     }
 }
 
+/// What a library is made of; what `rt` keeps beside it in out/ is no source.
+fn sources(root: &Path) -> Vec<PathBuf> {
+    let crates = fs::read_dir(root.join("crates")).into_iter().flatten().flatten();
+    let parts = crates.flat_map(|c| ["src", "specs", "proofs"].map(|part| c.path().join(part)));
+    std::iter::once(root.join("crates.txt")).chain(parts.filter(|p| p.exists())).collect()
+}
+
 /// The libraries are compiled for one processor and one system.
 fn target() {
     let is = |name: &str, value: &str| env::var(name).map_or(false, |v| v == value);
@@ -37,10 +44,10 @@ fn target() {
 
 fn make(root: &Path, name: &str) {
     println!("cargo:warning=proving and compiling {name}; the first time takes some minutes");
-    match Command::new("rt").args(["staticlib", name]).current_dir(root).output() {
+    match Command::new(root.join("bindings/libraries")).arg(name).output() {
         Ok(done) if done.status.success() => (),
-        Ok(done) => fail(&format!("`rt staticlib {name}` failed:\n{}{}", String::from_utf8_lossy(&done.stdout), String::from_utf8_lossy(&done.stderr))),
-        Err(why) => fail(&format!("`rt staticlib {name}` makes target/staticlib/lib{name}.a, and `rt` can't be run ({why}). It is the command of Rattle's kit")),
+        Ok(done) => fail(&format!("`bindings/libraries {name}` failed:\n{}{}", String::from_utf8_lossy(&done.stdout), String::from_utf8_lossy(&done.stderr))),
+        Err(why) => fail(&format!("`bindings/libraries {name}` makes target/staticlib/lib{name}.a, and can't be run ({why})")),
     }
 }
 

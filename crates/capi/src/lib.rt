@@ -9,8 +9,7 @@ use reader::node::has_text;
 use reader::read;
 
 // Reads a source into lent room, and gives back the answer's kind; its other numbers go where the pointers say.
-#[unsafe(no_mangle)]
-pub extern "C" fn vealtikum_read(
+pub fn vealtikum_read(
     source: &[u8],
     nodes: &mut [u16],
     text: &mut [u8],
@@ -28,8 +27,7 @@ pub extern "C" fn vealtikum_read(
 }
 
 // Where the text of the i-th record stands: gives back 1 for the source, 2 for the text buffer, 0 where there is none, and puts the first byte's place and the length where the pointers say.
-#[unsafe(no_mangle)]
-pub extern "C" fn vealtikum_text(
+pub fn vealtikum_text(
     source: &[u8],
     nodes: &[u16],
     text: &[u8],

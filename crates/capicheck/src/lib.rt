@@ -5,8 +5,7 @@ ghost use Rattle.checker.specs.Check.{Checks};
 use checker::check;
 
 // Whether a table and a text from anyone are the reading of a source.
-#[unsafe(no_mangle)]
-pub extern "C" fn vealtikum_check(source: &[u8], nodes: &[u16], text: &[u8]) -> bool
+pub fn vealtikum_check(source: &[u8], nodes: &[u16], text: &[u8]) -> bool
     ensures { Checks source.now nodes.now text.now result }
 {
     check(source, nodes, text)

@@ -1,27 +1,26 @@
 -- What a place calls for, by the byte that stands there.
-use Prim.Native.Nat.{ℕ, zero, suc, ◌+◌, ◌-◌, ◌≤◌, ◌<◌}
+use Prim.Native.Nat.{ℕ, ◌+◌}
 use mathlib.Core.Path.{◌≡◌, refl, sym, ap, ◌∙◌}
 use mathlib.Core.List.{List, [], ◌∷◌}
 use mathlib.Core.Bool.{Bool, true, false, cond, not, ◌&&◌, ◌||◌, or-false}
-use mathlib.Core.Option.{Option, none, some}
+use mathlib.Core.Option.{none}
 use native.Mathlib.Omega.{arith}
-use lib.Dec.{eqb, ltb}
-use borrow.Author.Tests.{eq-eqb, ne_eqb, lt-ltb, le-ltb}
+use lib.Dec.{eqb}
+use borrow.Author.Tests.{eq-eqb, ne_eqb, lt-ltb}
 use Rattle.lexis.specs.declared.trivia.Gap.{Gap}
 use Rattle.lexis.specs.declared.operator.Op.{Op}
-use Rattle.lexis.specs.declared.string.Why.{Why}
 use Rattle.lexis.specs.declared.string.Run.{Run}
 use Rattle.lexis.specs.Bytes.{byte_at, is_digit, is_start, is_rest, stands, Byte, Ran}
 use Rattle.lexis.specs.Trivia.{gap_to, Gapped}
 use Rattle.lexis.specs.Word.{null, yes, is_word, ident_to, for_to, constant_at}
 use Rattle.lexis.specs.Word as words
-use Rattle.lexis.specs.Operator.{op_at, OpHere, is_mark, equals_to}
-use Rattle.lexis.specs.String.{quoted, text_at, RunHere}
+use Rattle.lexis.specs.Operator.{op_at, OpHere, equals_to}
+use Rattle.lexis.specs.String.{quoted, RunHere}
 use Rattle.lexis.specs.RunLaws.{clash, stands_cons, stands_one, stands_two}
 use Rattle.lexis.specs.Keys.{key_to}
 use Rattle.engine.specs.Base.{choose}
 use Rattle.grammar.specs.Moves.{an_expression, a_part, is_part, behind_key, lone}
-use Rattle.grammar.specs.Hcl.{beyond, is_for, is_broken, is_template, terms, portions, pick_at, follows, follow_in, follow_at, under}
+use Rattle.grammar.specs.Hcl.{beyond, is_for, is_broken, is_template, terms, pick_at, follows, follow_in, follow_at, under}
 use Rattle.grammar.specs.Said.{kind_of, TermAt, PartAt, Follow, byte_beyond, calls_at, word_kind, for_beyond, broken_at, colon_at}
 
 -- ---- behind trivia

@@ -1,18 +1,17 @@
 -- What a child is under, class by class.
 use Prim.Native.Nat.{ℕ, ◌-◌, ◌%◌, ◌≤◌}
-use mathlib.Core.Path.{◌≡◌, refl, sym, ap, subst}
-use mathlib.Core.List.{List, [], ◌∷◌}
+use mathlib.Core.Path.{◌≡◌, refl, sym, ap}
 use mathlib.Core.Bool.{Bool, true, false, ◌||◌}
 use native.Mathlib.Omega.{arith}
 use lib.Dec.{T, eqb, leb, leb→le}
 use borrow.Author.Tests.{ne_eqb}
-use Rattle.engine.specs.Base.{all_of, has}
+use Rattle.engine.specs.Base.{has}
 use Rattle.grammar.specs.declared.shape.Child.{Child}
 use Rattle.grammar.specs.Moves.{an_expression, a_condition}
-use Rattle.grammar.specs.Layouts.{Class, right}
+use Rattle.grammar.specs.Layouts.{right}
 use Rattle.grammar.specs.Hcl.{under}
 use Rattle.grammar.specs.Code.{class_of}
-use Rattle.grammar.specs.Said.{classes, want_of, ChildOf}
+use Rattle.grammar.specs.Said.{classes, ChildOf}
 use Rattle.grammar.specs.PickLaws.{listed}
 
 abbrev child : ℕ → Bool → ℕ → ℕ → Child

@@ -1,8 +1,8 @@
 -- The answers of `head_at` and `next_at`.
-use Prim.Native.Nat.{ℕ, zero, suc, ◌+◌, ◌-◌, ◌*◌, ◌≤◌, ◌<◌}
+use Prim.Native.Nat.{ℕ, ◌+◌, ◌≤◌}
 use mathlib.Core.Path.{◌≡◌, refl, sym, ap, subst, ◌∙◌}
 use mathlib.Core.List.{List, [], ◌∷◌}
-use mathlib.Core.Bool.{Bool, true, false, cond, not, ◌&&◌, ◌||◌, and-false}
+use mathlib.Core.Bool.{Bool, true, false, cond, ◌&&◌, ◌||◌, and-false}
 use native.Mathlib.Omega.{arith}
 use lib.ListN.{length}
 use lib.Dec.{T, eqb, leb}
@@ -18,15 +18,15 @@ use Rattle.lexis.specs.Operator.{op_at, OpHere}
 use Rattle.lexis.specs.TokenLaws.{op_all}
 use Rattle.lexis.specs.RunLaws.{clash, stands_one}
 use Rattle.engine.specs.Base.{has}
-use Rattle.engine.specs.Layout.{Lay, fin, move, fork}
+use Rattle.engine.specs.Layout.{fin, move}
 use Rattle.grammar.specs.declared.picks.Head.{Head}
 use Rattle.grammar.specs.Kinds.{tight_of}
 use Rattle.grammar.specs.Moves.{Want, Under, to, no, unexpected, atom, walk, Move, gap, operator, here, line, mark, ident, number}
 use Rattle.grammar.specs.Moves as moves
-use Rattle.grammar.specs.Layouts.{Layout, layouts, layout_of, operator_lay, number_lay, ident_lay, word_lay}
+use Rattle.grammar.specs.Layouts.{layouts, layout_of, operator_lay, number_lay}
 use Rattle.grammar.specs.Hcl.{under}
 use Rattle.grammar.specs.KeyLaws.{word_ends}
-use Rattle.grammar.specs.Said.{TermAt, Follow, calls_at, word_kind}
+use Rattle.grammar.specs.Said.{TermAt, Follow, calls_at}
 use Rattle.grammar.specs.Alone.{head_of, Alone, word, digits, HeadAt, NextAt}
 use Rattle.grammar.proofs.Callings.{term_digit, term_word, word_call, word_some, word_none, follow_operator}
 

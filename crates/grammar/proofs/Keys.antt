@@ -1,28 +1,25 @@
 -- The answers of `sign_of` and `key_at`.
-use Prim.Native.Nat.{ℕ, zero, suc, ◌+◌, ◌-◌, ◌*◌, ◌≤◌, ◌<◌}
+use Prim.Native.Nat.{ℕ, zero, suc, ◌+◌, ◌-◌, ◌≤◌, ◌<◌}
 use mathlib.Core.Path.{◌≡◌, refl, sym, ap, subst, ◌∙◌}
 use mathlib.Core.List.{List, [], ◌∷◌}
 use mathlib.Core.Bool.{Bool, true, false, cond, not, ◌&&◌, ◌||◌, or-true}
-use mathlib.Core.Option.{none}
 use native.Mathlib.Omega.{arith}
 use lib.ListN.{length, drop}
 use lib.Dec.{eqb}
 use borrow.Author.Tests.{eq-eqb, ne_eqb}
 use Rattle.lexis.specs.declared.trivia.Gap.{Gap}
-use Rattle.lexis.specs.Bytes.{byte_at, is_digit, is_start, is_rest, stands, run, Byte, Ran}
+use Rattle.lexis.specs.Bytes.{byte_at, is_start, is_rest, stands, run, Byte, Ran}
 use Rattle.lexis.specs.Trivia.{gap_to, Gapped}
 use Rattle.lexis.specs.Word.{null, yes, is_word, ident_to, constant_at}
 use Rattle.lexis.specs.Word as words
 use Rattle.lexis.specs.Operator.{equals_to, is_mark}
-use Rattle.lexis.specs.RunLaws.{inside, clash, stands_one, stands_two, stands_inside, and_left}
+use Rattle.lexis.specs.RunLaws.{clash, stands_one, stands_two, stands_inside}
 use Rattle.lexis.specs.Keys.{key_to}
-use Rattle.engine.specs.Base.{choose}
 use Rattle.grammar.specs.declared.picks.Key.{Key}
 use Rattle.grammar.specs.Moves.{behind_key, lone, to, skip, gap_step}
-use Rattle.grammar.specs.Hcl.{follows}
 use Rattle.grammar.specs.KeyLaws.{Behind, lone_behind, behind_still, behind_call, start_digit}
 use Rattle.grammar.specs.Said.{calls_at, Follow}
-use Rattle.grammar.specs.Alone.{head_of, HeadAt, SignOf, key_of, Word, KeyAt}
+use Rattle.grammar.specs.Alone.{head_of, HeadAt, SignOf, key_of, KeyAt}
 use Rattle.grammar.proofs.Callings.{follow_still}
 use Rattle.grammar.proofs.Heads.{head_constant, head_variable}
 

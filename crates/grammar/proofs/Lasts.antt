@@ -1,14 +1,14 @@
 -- Bytes behind which nothing follows an operand: what stands there is no trivia, and begins nothing that may follow.
-use Prim.Native.Nat.{ℕ, suc, ◌+◌, ◌-◌, ◌≤◌}
+use Prim.Native.Nat.{ℕ, ◌+◌}
 use mathlib.Core.Path.{◌≡◌, refl, sym, ap, ◌∙◌}
-use mathlib.Core.List.{List, [], ◌∷◌, ◌++◌}
+use mathlib.Core.List.{List, [], ◌∷◌}
 use mathlib.Core.Bool.{Bool, true, false, not}
 use native.Mathlib.Omega.{arith}
-use lib.ListN.{length, drop}
+use lib.ListN.{drop}
 use lib.Dec.{eqb}
 use borrow.Author.Tests.{eq-eqb}
-use Rattle.lexis.specs.Bytes.{byte_at, begins, stands, Byte}
-use Rattle.lexis.specs.Trivia.{item, gap, gap_to, ends_at, Gapped}
+use Rattle.lexis.specs.Bytes.{byte_at, begins, Byte}
+use Rattle.lexis.specs.Trivia.{item, gap, gap_to, ends_at}
 use Rattle.lexis.specs.Operator.{op_at}
 use Rattle.lexis.specs.RunLaws.{clash, inside, next, stands_one}
 use Rattle.grammar.specs.StillLaws.{Still, still_at, still_by}

@@ -1,27 +1,26 @@
 -- The steps that the small functions make, by their tests.
-use Prim.Native.Nat.{ℕ, zero, suc, ◌+◌, ◌-◌, ◌*◌, ◌≤◌}
+use Prim.Native.Nat.{ℕ, zero, suc, ◌+◌}
 use mathlib.Core.Path.{◌≡◌, refl, sym, ap, ◌∙◌}
 use mathlib.Core.List.{List, [], ◌∷◌}
-use mathlib.Core.Bool.{Bool, true, false, cond, not, ◌&&◌, ◌||◌, or-false}
+use mathlib.Core.Bool.{Bool, true, false, not, ◌&&◌, ◌||◌, or-false}
 use native.Mathlib.Omega.{arith}
 use lib.Dec.{eqb}
 use borrow.Author.Tests.{eq-eqb, ne_eqb}
 use Rattle.lexis.specs.declared.trivia.Gap.{Gap}
 use Rattle.lexis.specs.declared.number.Index as declared
 use Rattle.lexis.specs.declared.operator.Op.{Op}
-use Rattle.lexis.specs.Bytes.{byte_at, is_foreign, stands, Byte, Ran}
-use Rattle.lexis.specs.Trivia.{gap_to, Gapped}
-use Rattle.lexis.specs.Word.{null, yes, no, in', if', word_to}
-use Rattle.lexis.specs.Number.{index_at, Indexed}
-use Rattle.lexis.specs.Operator.{op_at, OpHere, is_mark, mark_to}
+use Rattle.lexis.specs.Bytes.{byte_at, stands, Byte, Ran}
+use Rattle.lexis.specs.Trivia.{Gapped}
+use Rattle.lexis.specs.Word.{if', word_to}
+use Rattle.lexis.specs.Number.{Indexed}
+use Rattle.lexis.specs.Operator.{OpHere, is_mark, mark_to}
 use Rattle.lexis.specs.RunLaws.{stands_one, stands_two}
 use Rattle.grammar.specs.declared.moves.Went.{Went}
-use Rattle.grammar.specs.Kinds.{Foreign, Unexpected, Unclosed, Deep, Index}
+use Rattle.grammar.specs.Kinds.{Unexpected, Unclosed, Deep}
 use Rattle.grammar.specs.Moves as moves
 use Rattle.grammar.specs.Moves.{Want, an_expression, Under, Step, to, when, unexpected, token, Atom, index, operator, parts, unless, comma, call, gap_step, skip, level, opening, index_step, is_part, refused, atom}
-use Rattle.grammar.specs.Hcl.{under}
 use Rattle.grammar.specs.Code.{word_of}
-use Rattle.grammar.specs.Said.{went, went_of, Does, Moved, Plain, Placed, opened, stayed, lines_of}
+use Rattle.grammar.specs.Said.{went, went_of, Does, Moved, Plain, Placed, opened, lines_of}
 use Rattle.grammar.proofs.Steps.{does, fair_skip, opened_by}
 
 -- a test of a byte that was read is a test of the source

@@ -2,13 +2,13 @@
 use Prim.Native.Nat.{ℕ, zero, suc, ◌-◌, ◌*◌, ◌≤◌, ◌<◌}
 use mathlib.Core.Path.{◌≡◌, refl}
 use mathlib.Core.List.{List, [], ◌∷◌}
-use mathlib.Core.Bool.{Bool, true, false, cond, not, ◌&&◌, ◌||◌}
+use mathlib.Core.Bool.{Bool, true, false, ◌&&◌}
 use native.Mathlib.Omega.{arith}
 use lib.ListN.{get_or, get_or-eq_default}
 use lib.Dec.{T, leb, leb→le}
 use borrow.Author.Tests.{leb-true, leb-false}
 use Rattle.engine.specs.Base.{all_of, has}
-use Rattle.grammar.specs.Code.{atoms, program, code, operation, class, begins, begin}
+use Rattle.grammar.specs.Code.{atoms, program, code, class, begins, begin}
 use Rattle.grammar.specs.Said.{classes}
 
 first : (a b : Bool) → T (a && b) → T a

@@ -1,10 +1,10 @@
 -- What `head_at` and `next_at` promise: besides the kind, the end of a token that is a whole node, and the end of a binary operator.
 use Rattle.std.specs.Prelude.{ℕ, ◌+◌, ◌-◌, ◌≤◌, ◌<◌, ◌≡◌, List, [], ◌∷◌, Bool, true, false, cond, length, eqb}
-use Rattle.lexis.specs.Bytes.{is_start, byte_at, stands}
+use Rattle.lexis.specs.Bytes.{is_start, byte_at}
 use Rattle.lexis.specs.Word.{constant_at}
 use Rattle.lexis.specs.Operator.{equals_to, is_mark}
 use Rattle.lexis.specs.Keys.{key_to}
-use Rattle.engine.specs.Layout.{Lay, fin, move, fork}
+use Rattle.engine.specs.Layout.{fin, move, fork}
 use Rattle.grammar.specs.declared.picks.Head.{Head}
 use Rattle.grammar.specs.declared.picks.Key.{Key}
 use Rattle.grammar.specs.Kinds.{tight_of}

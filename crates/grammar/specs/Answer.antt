@@ -1,14 +1,14 @@
 -- The answer of a source: 01's order of refusals, and what is read.
-use Rattle.std.specs.Prelude.{ℕ, zero, suc, ◌+◌, ◌-◌, ◌*◌, ◌/◌, List, [], ◌∷◌, ◌++◌, Bool, true, false, cond, length, drop, eqb, ltb}
+use Rattle.std.specs.Prelude.{ℕ, ◌+◌, ◌-◌, ◌*◌, List, [], ◌∷◌, ◌++◌, Bool, true, false, length, drop, eqb, ltb}
 use Rattle.lexis.specs.Utf8.{first_bad}
 use Rattle.engine.specs.Base.{Outcome, ok, halt, stuck, bind, Tree, rec_of, size}
 use Rattle.engine.specs.Progress.{Pace, reads}
 use Rattle.engine.specs.Source.{Source}
-use Rattle.grammar.specs.Kinds.{Long, Utf8, Slots, Text, most, levels, wide}
-use Rattle.grammar.specs.Moves.{Want, an_expression, a_name, an_item, a_part, a_piece, a_condition, Under, Step, to, no, then, refusal, unexpected, skip, Atom, gap, mark, opens, word, ahead, for, ident, number, index, operator, parts, unless, comma, stop, ended, call, fresh, ending, run, piece, more, close, Move}
+use Rattle.grammar.specs.Kinds.{Long, Utf8, Slots, Text, most, levels}
+use Rattle.grammar.specs.Moves.{Want, an_expression, a_name, an_item, a_part, a_piece, a_condition, Under, then, refusal, unexpected, skip, gap, mark, opens, word, ahead, for, ident, number, index, operator, parts, unless, comma, stop, ended, call, fresh, ending, run, piece, more, close, Move}
 use Rattle.grammar.specs.Layouts.{Class, inside, single, key, value, test, branch, term, right, entry, called, portion, piecewise, filter}
 use Rattle.grammar.specs.Hcl.{hcl, under}
-use Rattle.grammar.specs.Table.{Record, table_of, words_of, numbers}
+use Rattle.grammar.specs.Table.{words_of}
 
 -- ---- for the fuel: which atoms take a byte, and what may stand within what without one
 

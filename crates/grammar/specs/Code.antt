@@ -1,10 +1,10 @@
 -- The layouts as the code has them: a program of instructions, each one number, and the atoms of its moves, each one number.
 -- That the program at a kind's start is the kind's layout is computed (`coded`).
-use Rattle.std.specs.Prelude.{ℕ, zero, suc, ◌+◌, ◌/◌, ◌%◌, ◌≡◌, refl, List, [], ◌∷◌, Bool, true, false, cond, get_or, drop, eqb, leb, T}
+use Rattle.std.specs.Prelude.{ℕ, ◌+◌, ◌/◌, ◌%◌, ◌≡◌, refl, List, [], ◌∷◌, cond, get_or, drop, eqb, leb, T}
 use Rattle.lexis.specs.Word.{null, yes, no, in', if'}
-use Rattle.engine.specs.Layout.{Lay, bad, fin, move, kid, fork, rep}
-use Rattle.grammar.specs.Moves.{Atom, gap, mark, opens, word, ahead, for, ident, number, index, operator, parts, unless, comma, stop, ended, call, fresh, ending, run, piece, more, close, any, line, here, Move}
-use Rattle.grammar.specs.Layouts.{Class, inside, single, key, value, test, branch, term, right, entry, called, portion, piecewise, filter, Layout, layout_of, layouts}
+use Rattle.engine.specs.Layout.{bad, fin, move, kid, fork, rep}
+use Rattle.grammar.specs.Moves.{Atom, gap, mark, opens, word, ahead, for, ident, number, index, operator, parts, unless, comma, call, any, line, here, Move}
+use Rattle.grammar.specs.Layouts.{Class, inside, single, test, branch, right, called, portion, filter, Layout, layout_of, layouts}
 
 -- ---- atoms: a code and an argument
 

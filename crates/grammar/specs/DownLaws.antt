@@ -1,6 +1,6 @@
 -- In a reading each child fits: the root is in the mode that its want goes with, and so is each child; and under such an attribute no child
 -- of a kind that is called for is refused for its place.
-use Rattle.std.specs.Prelude.{ℕ, ◌≡◌, refl, List, Bool, true, false, cond, not, ◌&&◌, ◌⊎◌, T}
+use Rattle.std.specs.Prelude.{ℕ, ◌≡◌, refl, List, Bool, true, false, cond, ◌&&◌, ◌⊎◌, T}
 use Rattle.std.proofs.Common.{subst, inl, inr}
 use Rattle.std.proofs.Math.Option.{some, none}
 use Rattle.engine.specs.Base.{Rec, all_of}
@@ -8,9 +8,8 @@ use Rattle.engine.specs.BaseLaws.{and_t}
 use Rattle.engine.specs.Layout.{bad, fin, move, kid, fork, rep}
 use Rattle.engine.specs.Tables.{Called}
 use Rattle.grammar.specs.Moves.{Want, an_expression, a_name, an_item, a_part, a_piece, a_condition, Under}
-use Rattle.grammar.specs.Layouts.{Class, inside, single, key, value, test, branch, term, right, entry, called, portion, piecewise, filter, Layout, layouts, layout_of}
+use Rattle.grammar.specs.Layouts.{Class, Layout, layouts, layout_of}
 use Rattle.grammar.specs.Hcl.{hcl, grows, fits, downs, under}
-use Rattle.grammar.specs.Answer.{root}
 use Rattle.grammar.specs.KindLaws.{heads, followers, called_all}
 
 -- a child of a class stands somewhere in a layout

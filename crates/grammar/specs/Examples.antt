@@ -1,5 +1,5 @@
 -- 01's first ten checked examples, by computation, as one table under one statement.
-use Rattle.std.specs.Prelude.{ℕ, ◌≡◌, refl, List, [], ◌∷◌, Bool, true, false}
+use Rattle.std.specs.Prelude.{ℕ, ◌≡◌, refl, List, [], ◌∷◌}
 use Rattle.lexis.specs.Bytes.{run, begins, up_to}
 use Rattle.lexis.specs.Trivia.{item, gap}
 use Rattle.lexis.specs.Number.{value_from}

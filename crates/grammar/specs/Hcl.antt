@@ -1,5 +1,5 @@
 -- HCL as tables: what each place calls for, what may follow an operand, what a child is under; the language of a source for the engine.
-use Rattle.std.specs.Prelude.{ℕ, zero, suc, ◌+◌, ◌-◌, ◌*◌, min, List, [], ◌∷◌, Bool, true, false, cond, not, ◌&&◌, ◌||◌, length, get_or, eqb, leb, ltb}
+use Rattle.std.specs.Prelude.{ℕ, ◌+◌, ◌-◌, min, List, [], ◌∷◌, Bool, true, false, cond, not, ◌&&◌, ◌||◌, eqb, leb, ltb}
 use Rattle.std.proofs.Math.Option.{Option, none, some}
 use Rattle.lexis.specs.declared.trivia.Gap.{Gap}
 use Rattle.lexis.specs.declared.string.Why.{Why}
@@ -10,9 +10,9 @@ use Rattle.lexis.specs.Word.{ident_to, is_word, for_to, null, yes, no}
 use Rattle.lexis.specs.Operator.{op_at, is_mark, any_of}
 use Rattle.lexis.specs.String.{quoted, text_at}
 use Rattle.engine.specs.Base.{Rec, choose}
-use Rattle.engine.specs.Layout.{Lay, bad, Lang}
+use Rattle.engine.specs.Layout.{Lang}
 use Rattle.grammar.specs.Kinds.{tight_of, hold_of, Deep}
-use Rattle.grammar.specs.Moves.{Want, an_expression, a_name, an_item, a_part, a_piece, a_condition, Under, Step, place, refusal, unexpected, is_part, lones, Atom, gap, mark, opens, word, ahead, for, ident, number, index, operator, parts, unless, comma, stop, ended, call, fresh, ending, run, piece, more, close, Space, any, line, here, Move, walk}
+use Rattle.grammar.specs.Moves.{Want, an_expression, a_name, an_item, a_part, a_piece, a_condition, Under, place, refusal, unexpected, is_part, lones, gap, mark, opens, word, ahead, for, ident, number, index, operator, parts, unless, comma, stop, ended, call, fresh, ending, run, piece, more, close, Space, any, line, here, Move, walk}
 use Rattle.grammar.specs.Layouts.{Class, inside, single, key, value, test, branch, term, right, entry, called, portion, piecewise, filter, layout_of}
 
 -- ---- what a place calls for

@@ -1,5 +1,5 @@
 -- The kinds that the tables call for: a test that computes, over the kinds that are listed, passes at each that is called for.
-use Rattle.std.specs.Prelude.{ℕ, ◌<◌, ◌≡◌, refl, List, [], ◌∷◌, Bool, true, false, cond, not, ◌||◌, ◌⊎◌, eqb, ltb, T}
+use Rattle.std.specs.Prelude.{ℕ, ◌<◌, ◌≡◌, refl, List, [], ◌∷◌, Bool, true, false, cond, ◌||◌, ◌⊎◌, eqb, ltb, T}
 use Rattle.std.proofs.Common.{subst, inl, inr, arith, eqb→eq, ltb-true}
 use Rattle.std.proofs.Math.Option.{none, some}
 use Rattle.lexis.specs.Bytes.{byte_at}

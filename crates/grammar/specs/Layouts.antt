@@ -3,7 +3,7 @@
 use Rattle.std.specs.Prelude.{ℕ, ◌+◌, List, [], ◌∷◌, true, false, get_or}
 use Rattle.engine.specs.Layout.{Lay, bad, fin, move, kid, fork, rep}
 use Rattle.lexis.specs.Word.{null, yes, no, in', if'}
-use Rattle.grammar.specs.Moves.{Atom, gap, mark, opens, word, ahead, for, ident, number, index, operator, parts, unless, comma, stop, ended, call, fresh, ending, run, piece, more, close, any, line, here, Move}
+use Rattle.grammar.specs.Moves.{gap, mark, opens, word, ahead, for, ident, number, index, operator, parts, unless, comma, stop, ended, call, fresh, ending, run, piece, more, close, any, line, here, Move}
 
 -- what a child may be
 pub data Class : Type 0 where

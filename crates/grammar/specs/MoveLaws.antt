@@ -1,5 +1,5 @@
 -- Laws on moves: none goes back or out of the source, and one that eats goes on.
-use Rattle.std.specs.Prelude.{ℕ, zero, suc, ◌+◌, ◌≤◌, ◌<◌, ◌≡◌, Bool, false, not, ◌&&◌, ◌⊎◌, length, drop}
+use Rattle.std.specs.Prelude.{ℕ, zero, suc, ◌+◌, ◌≤◌, ◌<◌, ◌≡◌, Bool, false, ◌&&◌, ◌⊎◌, length, drop}
 use Rattle.std.proofs.Math.Path.{refl, subst}
 use Rattle.std.proofs.Common.{ap, arith}
 use mathlib.Core.List.{List, [], ◌∷◌}
@@ -25,7 +25,7 @@ use Rattle.lexis.specs.TokenLaws.{Within, stays, further, takes, ident_within, n
 use Rattle.lexis.specs.TextLaws.{text_within, closes_within}
 use Rattle.lexis.specs.Keys.{among}
 use Rattle.grammar.specs.Moves.{Under, Step, to, no, then, when, unexpected, token, Atom, gap, mark, opens, word, ahead, for, ident, number, index, operator, parts, unless, comma, stop, ended, call, fresh, ending, run, piece, more, close, round, unit_at, closes_as, closes, close_as, goes_as, same, runs, text_start, keys_of, behind_key, lines_in, skip, marks, level, opening, is_part, stop_step, stopping, refused, atom, Move, walk}
-use Rattle.grammar.specs.Answer.{eating, rest}
+use Rattle.grammar.specs.Answer.{eating}
 
 -- ---- a step that is made
 

@@ -9,7 +9,7 @@ use Rattle.lexis.specs.declared.heredoc.Line.{Line}
 use Rattle.lexis.specs.declared.heredoc.Line.TheVariants as heredoc_line
 use Rattle.lexis.specs.declared.string.Why.{Why}
 use Rattle.lexis.specs.declared.string.Why.TheVariants as why
-use Rattle.lexis.specs.Bytes.{byte_at, is_foreign, is_digit, is_start, stands}
+use Rattle.lexis.specs.Bytes.{byte_at, is_foreign, stands}
 use Rattle.lexis.specs.Trivia.{gap_to, stop_to}
 use Rattle.lexis.specs.Word.{ident_to, is_word, for_to}
 use Rattle.lexis.specs.Number.{number_to, index_at}

@@ -1,8 +1,8 @@
 -- Every number of a table that is read is at most 65,535: kinds and flags are small, and places, counts and text numbers are no more than the source's
 -- length.
-use Prim.Native.Nat.{ℕ, zero, suc, ◌+◌, ◌-◌, ◌≤◌}
-use Rattle.std.specs.Prelude.{◌≡◌, refl, List, [], ◌∷◌, ◌++◌, Bool, true, false, ◌&&◌, ◌||◌, length, get_or, eqb, leb, T}
-use Rattle.std.proofs.Common.{sym, ap, ◌∙◌, subst, inl, inr, arith, leb→le}
+use Prim.Native.Nat.{ℕ, zero, suc, ◌+◌, ◌≤◌}
+use Rattle.std.specs.Prelude.{◌≡◌, List, [], ◌∷◌, ◌++◌, Bool, true, false, ◌&&◌, ◌||◌, length, get_or, eqb, leb, T}
+use Rattle.std.proofs.Common.{ap, subst, inl, inr, arith, leb→le}
 use Rattle.std.proofs.Math.Option.{some}
 use Rattle.engine.specs.Base.{Rec, Tree, node, Trees, nil, cons, rec_of, sizes, all_of}
 use Rattle.engine.specs.BaseLaws.{and_t}
@@ -11,7 +11,7 @@ use Rattle.engine.specs.Tables.{Called}
 use Rattle.engine.specs.Rule.{Runs, rfin, rmove, rkid, ryes, rno, rrep, rend, Firm, Local, first, later, Every, every, Everys, enil, econs}
 use Rattle.grammar.specs.Moves.{Want, an_expression, a_name, an_item, a_part, a_piece, a_condition, Under, Move}
 use Rattle.grammar.specs.Layouts.{Layout, layouts, layout_of}
-use Rattle.grammar.specs.Hcl.{hcl, grows}
+use Rattle.grammar.specs.Hcl.{hcl}
 use Rattle.grammar.specs.Table.{Record, own, total, span, span_as, record_of, texts_of, texts_ofs, records_of, records_ofs, numbers}
 use Rattle.grammar.specs.Going.{place_to, down_is}
 use Rattle.grammar.specs.KindLaws.{heads, followers, follow_all, called_all}

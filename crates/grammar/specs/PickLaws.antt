@@ -1,7 +1,7 @@
 -- Laws on what a place calls for: which kinds it may be, and what the program and the tables say of these.
-use Rattle.std.specs.Prelude.{ℕ, zero, suc, ◌+◌, ◌≤◌, ◌≡◌, List, [], ◌∷◌, Bool, ◌&&◌, ◌||◌, drop, eqb, ltb}
+use Rattle.std.specs.Prelude.{ℕ, ◌≤◌, ◌≡◌, List, [], ◌∷◌, Bool, ◌&&◌, ◌||◌, drop, eqb, ltb}
 use Rattle.std.proofs.Math.Path.{refl}
-use Rattle.std.proofs.Common.{sym, ap, ◌∙◌, subst, arith, leb→le, eqb→eq, eqb-true, eq-eqb, ne_eqb, ltb-true}
+use Rattle.std.proofs.Common.{sym, ap, subst, arith, leb→le, eqb→eq, eqb-true, eq-eqb, ne_eqb, ltb-true}
 use Rattle.std.proofs.Math.Bool.{true, false, cond, not}
 use Rattle.std.proofs.Math.Option.{Option, none, some}
 use Rattle.std.proofs.Math.Dec.{T, leb}
@@ -10,7 +10,6 @@ use Rattle.lexis.specs.Trivia.{gap_to}
 use Rattle.lexis.specs.Operator.{op_at}
 use Rattle.lexis.specs.TokenLaws.{op_all}
 use Rattle.engine.specs.Base.{all_of, has, choose}
-use Rattle.engine.specs.Layout.{Lay}
 use Rattle.grammar.specs.Kinds.{tight_of}
 use Rattle.grammar.specs.Moves.{Want, an_expression, a_name, an_item, a_part, a_piece, a_condition, Under}
 use Rattle.grammar.specs.Hcl.{terms, portions, picks, pick_at, follows, follow_in, follow_at, grows, under}

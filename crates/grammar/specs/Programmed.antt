@@ -1,9 +1,9 @@
 -- What the prover computed of each kind of the program, as one record.
-use Rattle.std.specs.Prelude.{ℕ, suc, ◌+◌, ◌≡◌, List, [], ◌∷◌, Bool, true, false, ◌&&◌, ◌||◌, ◌⊎◌, eqb, leb, ltb, T}
+use Rattle.std.specs.Prelude.{ℕ, ◌+◌, List, [], ◌∷◌, Bool, true, false, ◌&&◌, ◌⊎◌, eqb, ltb, T}
 use Rattle.std.proofs.Common.{subst, inl, inr, eqb→eq}
 use Rattle.engine.specs.Base.{has, all_of}
 use Rattle.engine.specs.BaseLaws.{has_all, or_t}
-use Rattle.engine.specs.Layout.{Lay, bad, fin, move, kid, fork, rep}
+use Rattle.engine.specs.Layout.{bad, fin, move, kid, fork, rep}
 use Rattle.grammar.specs.Layouts.{Layout, layout_of, layouts}
 use Rattle.grammar.specs.Code.{Codes, All, right_coded, coded, begin, begins, program, code, otherwise}
 use Rattle.grammar.specs.Thrift.{thrift, thrifty}

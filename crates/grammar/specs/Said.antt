@@ -14,7 +14,7 @@ use Rattle.grammar.specs.declared.shape.Instr.{Instr}
 use Rattle.grammar.specs.declared.shape.Child.{Child}
 use Rattle.grammar.specs.Moves.{Want, an_expression, a_name, a_part, a_condition, Under, Step, to, no, when, unexpected, level, skip, Atom, atom, walk}
 use Rattle.grammar.specs.Hcl.{beyond, is_broken, pick_at, follow_at, under, downs, bounds, styles}
-use Rattle.grammar.specs.Code.{atoms, move_at, word_of, atom_of, code, operation, argument, class, otherwise, class_of}
+use Rattle.grammar.specs.Code.{atoms, move_at, code, operation, argument, class, otherwise, class_of}
 use Rattle.grammar.specs.Thrift.{takes, eaten}
 
 -- ---- the program

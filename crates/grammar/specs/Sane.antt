@@ -1,18 +1,16 @@
 -- HCL's tables are sane (the engine's Tables).
-use Rattle.std.specs.Prelude.{ℕ, suc, ◌≤◌, min, ◌≡◌, refl, List, Bool, true, cond, not, ◌||◌, ◌⊎◌, leb, T}
+use Rattle.std.specs.Prelude.{ℕ, suc, ◌≤◌, min, ◌≡◌, refl, List, Bool, true, cond, ◌||◌, ◌⊎◌, leb, T}
 use Rattle.std.proofs.Common.{sym, subst, inl, inr, arith, leb→le, le→leb}
 use Rattle.std.proofs.Math.Option.{Option, none, some}
-use Rattle.std.proofs.lemmas.Bool.{not-true}
 use Rattle.lexis.specs.Bytes.{begins}
-use Rattle.lexis.specs.RunLaws.{and_left, and_right}
 use Rattle.engine.specs.Base.{Rec, all_of}
 use Rattle.engine.specs.BaseLaws.{or_t, LeCase, low, high, le_case, EqCase, same, other, eq_case}
 use Rattle.engine.specs.Layout.{after, level}
 use Rattle.engine.specs.Tables.{ok_kind, ok_op, stands as standing, Called, Sane}
-use Rattle.grammar.specs.Kinds.{holds, tight_of, hold_of}
-use Rattle.grammar.specs.Moves.{Want, an_expression, a_name, an_item, a_part, a_piece, a_condition, Under, no, place, for, operator, Move, walk}
+use Rattle.grammar.specs.Kinds.{tight_of, hold_of}
+use Rattle.grammar.specs.Moves.{Want, an_expression, a_name, an_item, a_part, a_piece, a_condition, Under, place, Move, walk}
 use Rattle.grammar.specs.Layouts.{Class, inside, single, key, value, test, branch, term, right, entry, called, portion, piecewise, filter, layouts}
-use Rattle.grammar.specs.Hcl.{hcl, pick_at, follows, follow_at, grows, downs, fits, bounds, slacks, bare, stilled, keeping}
+use Rattle.grammar.specs.Hcl.{hcl, pick_at, follow_at, downs, fits, bounds, slacks, bare, stilled, keeping}
 use Rattle.grammar.specs.KindLaws.{heads, pick_all, followers, follow_all, called_all}
 use Rattle.grammar.specs.QuietLaws.{stilled_after}
 use Rattle.grammar.specs.Going.{place_to, down_is}

@@ -4,7 +4,7 @@ use Rattle.std.proofs.Common.{sym, ◌∙◌, subst, inl, inr, eqb-true}
 use mathlib.Core.List.{List, [], ◌∷◌, ◌++◌}
 use Rattle.std.proofs.Math.Option.{none}
 use Rattle.lexis.specs.Bytes.{byte_at, begins}
-use Rattle.lexis.specs.Trivia.{ending, ends_line, starts_comment}
+use Rattle.lexis.specs.Trivia.{ends_line, starts_comment}
 use Rattle.lexis.specs.Operator.{Row, no_op, operators, op_at}
 use Rattle.lexis.specs.Operator as operator
 use Rattle.lexis.specs.RunLaws.{clash, other, front, and_left, and_right}

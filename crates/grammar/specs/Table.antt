@@ -1,7 +1,7 @@
 -- The table and the text of a reading: seven numbers a node, children first, and the unescaped text of strings and pieces, back to back.
-use Rattle.std.specs.Prelude.{ℕ, zero, suc, ◌+◌, ◌-◌, List, [], ◌∷◌, ◌++◌, Bool, true, false, cond, ◌&&◌, ◌||◌, length, eqb}
+use Rattle.std.specs.Prelude.{ℕ, suc, ◌+◌, ◌-◌, List, [], ◌∷◌, ◌++◌, Bool, true, false, ◌&&◌, ◌||◌, length, eqb}
 use Rattle.lexis.specs.String.{quoted, text_at}
-use Rattle.engine.specs.Base.{Tree, Trees, node, nil, cons, size, sizes}
+use Rattle.engine.specs.Base.{Tree, Trees, node, nil, cons, sizes}
 use Rattle.grammar.specs.Moves.{round}
 
 -- "kind, flag, start, end, count of nodes in its subtree (itself included), text start, text length"

@@ -1,15 +1,13 @@
 -- What is proved of HCL, each statement on its own. `source s` is the bytes s as a source of HCL's tables (Answer); `Holds (source s) rows` says
 -- that the rule holds at every node of a table from anyone, and `reading (source s)` is what reading s from the left comes to.
 use Rattle.std.specs.Prelude.{ℕ, ◌<◌, ◌≡◌, List, ◌↔◌, length}
-use Rattle.std.proofs.Math.Option.{none, some}
+use Rattle.std.proofs.Math.Option.{some}
 use Rattle.engine.specs.Base.{ok, stuck}
 use Rattle.engine.specs.Flat.{Row, row_in}
 use Rattle.engine.specs.Source.{reading, Holds, blank}
 use Rattle.engine.specs.Levels.{level_in, Operands}
 use Rattle.engine.specs.Theorem.{agree, only_one, answered, precedence}
-use Rattle.grammar.specs.Kinds.{holds}
 use Rattle.grammar.specs.Answer.{source}
-use Rattle.grammar.specs.DownLaws.{kids}
 use Rattle.grammar.specs.Checked.{checked}
 use Rattle.grammar.specs.Precedence.{thirteen, Binds}
 use Rattle.grammar.specs.PrecedenceLaws.{graded, pair_binds}

@@ -1,7 +1,7 @@
 -- How many bytes a layout takes at least, beside those of its children: so that nodes are never more than bytes.
-use Rattle.std.specs.Prelude.{ℕ, zero, suc, ◌+◌, List, [], ◌∷◌, Bool, true, false, cond, ◌&&◌, ◌||◌, length, eqb, leb, ltb, T}
+use Rattle.std.specs.Prelude.{ℕ, suc, ◌+◌, [], ◌∷◌, Bool, true, false, cond, ◌&&◌, ◌||◌, length, eqb, leb, ltb, T}
 use Rattle.engine.specs.Base.{all_of}
-use Rattle.engine.specs.Layout.{Lay, bad, fin, move, kid, fork, rep}
+use Rattle.engine.specs.Layout.{bad, fin, move, kid, fork, rep}
 use Rattle.grammar.specs.Moves.{Atom, gap, mark, opens, word, ahead, for, ident, number, index, operator, parts, unless, comma, stop, ended, call, fresh, ending, run, piece, more, close, Move}
 use Rattle.grammar.specs.Layouts.{Class, inside, single, key, value, test, branch, term, right, entry, called, portion, piecewise, filter, Layout, layout_of, layouts}
 use Rattle.grammar.specs.Code.{coded}

@@ -1,9 +1,9 @@
 -- The kinds of the program: what each is wanted as, and that its children fit there.
-use Rattle.std.specs.Prelude.{ℕ, ◌≡◌, refl, List, [], ◌∷◌, Bool, true, false, cond, ◌&&◌, eqb, leb, T}
+use Rattle.std.specs.Prelude.{ℕ, ◌≡◌, refl, List, [], Bool, true, false, cond, ◌&&◌, eqb, leb, T}
 use Rattle.std.proofs.Math.Option.{some}
 use Rattle.engine.specs.Base.{Rec, all_of}
-use Rattle.engine.specs.Layout.{Lay, bad, fin, move, kid, fork, rep}
-use Rattle.grammar.specs.Moves.{Want, an_expression, a_name, an_item, a_part, a_piece, a_condition, Under}
+use Rattle.engine.specs.Layout.{bad, fin, move, kid, fork, rep}
+use Rattle.grammar.specs.Moves.{Want, an_expression, a_name, a_part, a_piece, a_condition, Under}
 use Rattle.grammar.specs.Layouts.{Class, inside, single, key, value, test, branch, term, right, entry, called, portion, piecewise, filter, Layout, layout_of, layouts}
 use Rattle.grammar.specs.Hcl.{hcl, fits, grows, downs, under}
 use Rattle.grammar.specs.Code.{class_of, coded}

@@ -7,7 +7,7 @@ use native.Mathlib.Omega.{arith}
 use lib.ListN.{length, get_or, take, set, length-set}
 use lib.Seq.{get_or-set_same, get_or-set_other, take-set-le}
 use Rattle.index.specs.Mark.{mark_at}
-use Rattle.index.specs.Index.{start_in, mark_in, child_in, starts_of, starts, Path, here, on, Slot, Indexed, Fits, Inserted}
+use Rattle.index.specs.Index.{start_in, mark_in, child_in, starts_of, Path, here, Slot, Indexed, Fits, Inserted}
 use Rattle.index.specs.IndexLaws.{starts_same, path_same, path_more, indexed_kept}
 
 -- the four numbers of a slot, one after the other

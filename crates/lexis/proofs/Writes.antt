@@ -10,7 +10,7 @@ use lib.ListN.{length, get_or, take, drop, set, length-set, length-append, lengt
 use lib.Seq.{paste, paste-zero, paste-suc, take-paste, drop-paste, drop-drop, get_or-drop, take-add, take-length, take-append_seam, drop-append_seam}
 use borrow.Author.Tests.{le-leb, lt-leb}
 use Rattle.lexis.specs.Heredoc.{fresh_at, part}
-use Rattle.lexis.specs.String.{Mode, mode_of, Unit, is, not, unit, unit_in, Text, text_at, packed, unpacked, piece_of, UnitHere, RunHere, fits_at, laid, Wrote}
+use Rattle.lexis.specs.String.{Mode, mode_of, Unit, is, not, unit, unit_in, Text, text_at, packed, unpacked, piece_of, UnitHere, RunHere, fits_at, Wrote}
 use Rattle.lexis.specs.declared.string.Why.TheVariants.{End}
 use Rattle.lexis.specs.declared.string.Piece.{Piece}
 use Rattle.lexis.specs.declared.string.Run.{Run}

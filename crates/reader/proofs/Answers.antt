@@ -1,28 +1,28 @@
 -- The answers of the reader's functions, from those of the functions that they call.
-use Prim.Native.Nat.{ℕ, zero, suc, ◌+◌, ◌-◌, ◌≤◌, ◌<◌}
+use Prim.Native.Nat.{ℕ, suc, ◌+◌, ◌≤◌, ◌<◌}
 use mathlib.Core.Path.{◌≡◌, refl, sym, ap, subst, ◌∙◌}
-use mathlib.Core.Bool.{Bool, true, false}
-use mathlib.Core.Option.{Option, none, some}
+use mathlib.Core.Bool.{false}
+use mathlib.Core.Option.{Option, some}
 use mathlib.Core.List.{List, [], ◌∷◌, ◌++◌, append-nil, append_assoc}
 use native.Mathlib.Omega.{arith}
 use lib.ListN.{length, length-append}
 use lib.Dec.{eqb}
 use Rattle.reader.specs.declared.Step.{Step}
-use Rattle.engine.specs.Base.{Outcome, ok, halt, stuck, Rec, Tree, Trees, node, nil, cons, rec_of, size, sizes, join, one}
+use Rattle.engine.specs.Base.{Outcome, ok, halt, stuck, Rec, Tree, Trees, node, cons, rec_of, size, sizes}
 use Rattle.engine.specs.BaseLaws.{unless_lt}
-use Rattle.engine.specs.Engine.{Body, Whole, Fits, FailIn, FailAt}
-use Rattle.engine.specs.Layout.{Lay, bad, fin, State, grammar, after, fit, from}
+use Rattle.engine.specs.Engine.{Body, Fits, FailIn, FailAt}
+use Rattle.engine.specs.Layout.{fin, grammar, fit, from}
 use Rattle.engine.specs.Tables.{Sane}
 use Rattle.engine.specs.LayoutLaws.{after_cap}
-use Rattle.engine.specs.Way.{mid, Way, way_fin, Led, led, Part, part_led, part_led_no, part_stop, part_more, part_no}
+use Rattle.engine.specs.Way.{mid, way_fin, led, Part, part_led, part_led_no, part_stop, part_more, part_no}
 use Rattle.grammar.specs.Moves.{Under}
 use Rattle.grammar.specs.Kinds.{tight_of}
-use Rattle.grammar.specs.Layouts.{Class, Layout, layout_of}
+use Rattle.grammar.specs.Layouts.{Layout, layout_of}
 use Rattle.grammar.specs.Hcl.{hcl, pick_at, follow_at}
-use Rattle.grammar.specs.Table.{Record, record_of, span, own, records_of, records_ofs, texts_of, texts_ofs, total}
+use Rattle.grammar.specs.Table.{Record, record_of, own, records_of, records_ofs, texts_of, texts_ofs, total}
 use Rattle.reader.specs.Buffer.{put_at, lay, write}
-use Rattle.reader.specs.Said.{step_of, Climbs, Terms, Heads, Good, told_as, Kept, Said, Makes, made_as, Made, SaidMade}
-use Rattle.reader.proofs.Lays.{lay_none, lay_join, lay_one, write_none, write_join, total_append, texts_join, records_join, lengths_records, length_records, texts_same, records_same, own_none, span_none}
+use Rattle.reader.specs.Said.{step_of, Climbs, Heads, Good, told_as, Kept, Said, Makes, made_as, Made}
+use Rattle.reader.proofs.Lays.{lay_none, lay_join, lay_one, write_none, write_join, total_append, lengths_records, length_records, texts_same, records_same, own_none, span_none}
 use Rattle.reader.proofs.Stages.{Stage}
 
 -- ---- answers that were given

@@ -1,36 +1,32 @@
 -- The answers of `sub`, `prim`, `term` and `expr`, from those of the functions that they call.
-use Prim.Native.Nat.{ℕ, zero, suc, ◌+◌, ◌*◌, ◌-◌, ◌≤◌, ◌<◌}
+use Prim.Native.Nat.{ℕ, ◌+◌, ◌≤◌, ◌<◌}
 use mathlib.Core.Path.{◌≡◌, refl, sym, ap, subst, subst₂, ◌∙◌}
-use mathlib.Core.Bool.{Bool, true, false, not, ◌&&◌, ◌||◌}
+use mathlib.Core.Bool.{Bool, true, false, ◌||◌}
 use mathlib.Core.Option.{Option, none, some}
-use mathlib.Core.List.{List, [], ◌∷◌}
+use mathlib.Core.List.{List, []}
 use native.Mathlib.Omega.{arith}
 use lib.ListN.{length}
 use lib.Dec.{eqb, leb, leb→le, T}
 use borrow.Author.Tests.{ne_eqb, eqb-true, eqb-false}
 use Rattle.reader.specs.declared.Step.{Step}
-use Rattle.engine.specs.Base.{Outcome, ok, halt, stuck, Rec, Tree, rec_of, has, all_of}
+use Rattle.engine.specs.Base.{Outcome, ok, halt, stuck, Rec, Tree, has}
 use Rattle.engine.specs.BaseLaws.{has_all}
 use Rattle.engine.specs.Engine.{Body, FailIn, FailAt}
 use Rattle.engine.specs.Layout.{grammar, after, level, fit, from}
-use Rattle.engine.specs.Tables.{Sane}
-use Rattle.engine.specs.LayoutLaws.{after_cap}
 use Rattle.engine.specs.Way.{mid, Part, part_led, part_led_no, part_stop}
 use Rattle.engine.specs.Way as way
 use Rattle.lexis.specs.Bytes.{byte_at, is_foreign}
 use Rattle.grammar.specs.declared.moves.Went.{Went}
 use Rattle.grammar.specs.Kinds.{tight_of}
-use Rattle.grammar.specs.Moves.{Want, Under, an_expression, a_name, a_part, a_condition, no, when, unexpected, refusal}
+use Rattle.grammar.specs.Moves.{Want, Under, an_expression, no, when, unexpected, refusal}
 use Rattle.grammar.specs.Layouts.{Layout, layout_of}
-use Rattle.grammar.specs.Hcl.{hcl, pick_at, follow_at, under, bounds}
-use Rattle.grammar.specs.Code.{class_of}
+use Rattle.grammar.specs.Hcl.{hcl, pick_at, follow_at, under}
 use Rattle.grammar.specs.Sane.{sane}
-use Rattle.grammar.specs.Thrift.{spare, bonus}
-use Rattle.grammar.specs.Wants.{want_in, want_as, below}
+use Rattle.grammar.specs.Wants.{want_in}
 use Rattle.grammar.specs.Said.{kind_of, TermAt, Follow, went_of}
-use Rattle.grammar.specs.PickLaws.{Following, kind_some, pick_none, follow_none, follow_kind, followed, followers, Term, term_of, picked_term}
-use Rattle.reader.specs.Said.{step_of, Climbs, Firsts, Terms, Heads, Good, Kept, Any, under_any, any_before, told_as, Said, Makes, made_as, Made, SaidMade, SaidSub, Asked}
-use Rattle.reader.proofs.Answers.{good, from_good, refused, pass, kept_join, Done, done, done_head, head_no, head_whole, head_whole_no, fits_all, Turning, turned, turning_start, turning_more, turning_no}
+use Rattle.grammar.specs.PickLaws.{Following, kind_some, pick_none, follow_kind, followed, followers}
+use Rattle.reader.specs.Said.{step_of, Climbs, Firsts, Terms, Heads, Good, Kept, Any, under_any, any_before, told_as, Said, Makes, made_as, Made, SaidMade}
+use Rattle.reader.proofs.Answers.{good, from_good, refused, pass, done, done_head, head_no, head_whole, head_whole_no, fits_all, Turning, turned, turning_more, turning_no}
 
 -- ---- a production that stands first, as an answer
 

@@ -1,32 +1,31 @@
 -- The answers of `first` and `grow`: a token alone, and a binary operator with what stands to its right.
-use Prim.Native.Nat.{ℕ, zero, suc, ◌+◌, ◌-◌, ◌≤◌, ◌<◌}
-use mathlib.Core.Path.{◌≡◌, refl, sym, ap, subst, ◌∙◌}
-use mathlib.Core.Bool.{Bool, true, false, cond, ◌&&◌}
+use Prim.Native.Nat.{ℕ, ◌+◌, ◌≤◌, ◌<◌}
+use mathlib.Core.Path.{◌≡◌, refl, sym, ap, ◌∙◌}
+use mathlib.Core.Bool.{Bool}
 use mathlib.Core.Option.{some}
-use mathlib.Core.List.{List, [], ◌∷◌}
+use mathlib.Core.List.{List, []}
 use native.Mathlib.Omega.{arith}
 use lib.ListN.{length}
-use lib.Dec.{eqb, leb, T}
+use lib.Dec.{T}
 use borrow.Author.Tests.{ne_eqb, lt-leb}
 use Rattle.reader.specs.declared.Step.{Step}
 use Rattle.grammar.specs.declared.moves.Went.{Went}
 use Rattle.engine.specs.Base.{Outcome, ok, halt, stuck, Rec, Tree}
-use Rattle.engine.specs.Engine.{FailIn, FailAt}
-use Rattle.engine.specs.Layout.{Lay, fin, move, kid, fork, grammar}
-use Rattle.engine.specs.Way.{mid, Part, part_led, part_led_no}
+use Rattle.engine.specs.Layout.{fin, move, kid}
+use Rattle.engine.specs.Way.{mid, part_led, part_led_no}
 use Rattle.grammar.specs.Kinds.{tight_of}
-use Rattle.grammar.specs.Moves.{Want, Under, an_expression, to, no, walk, atom, skip, unexpected, Move, gap, operator, here}
-use Rattle.grammar.specs.Layouts.{Class, Layout, layout_of, operator_lay, round, right}
+use Rattle.grammar.specs.Moves.{Under, an_expression, to, no, walk, atom, skip, unexpected}
+use Rattle.grammar.specs.Layouts.{Layout, layout_of, round, right}
 use Rattle.grammar.specs.Hcl.{hcl, pick_at, under, grows}
 use Rattle.grammar.specs.Table.{record_of}
 use Rattle.grammar.specs.Thrift.{spare}
-use Rattle.grammar.specs.Wants.{want_in, below, down_below}
-use Rattle.grammar.specs.Said.{TermAt, Moved, went_of}
+use Rattle.grammar.specs.Wants.{want_in, down_below}
+use Rattle.grammar.specs.Said.{Moved, went_of}
 use Rattle.grammar.specs.PickLaws.{Following, kind_some, pick_none, follow_kind}
 use Rattle.grammar.specs.Alone.{head_of, Alone, word, digits, HeadAt, NextAt}
 use Rattle.reader.specs.Buffer.{put_at}
-use Rattle.reader.specs.Said.{step_of, Climbs, Firsts, Terms, Heads, Good, Kept, Any, under_any, any_before, One, Said, SaidMade, Asked, Laying, Closing}
-use Rattle.reader.proofs.Answers.{good, from_good, refused, pass, done, done_head, stage_made, made_no, fits_all}
+use Rattle.reader.specs.Said.{step_of, Climbs, Firsts, Terms, Heads, Kept, Any, under_any, any_before, One, Said, SaidMade, Asked, Laying, Closing}
+use Rattle.reader.proofs.Answers.{good, from_good, refused, done, done_head, stage_made, made_no, fits_all}
 use Rattle.reader.proofs.Stages.{Stage, stage_start, stage_lay, stage_move, stage_no, stage_stop, stage_kid, stage_kid_no}
 use Rattle.reader.proofs.Laidings.{pass_made}
 use Rattle.reader.proofs.Exprs.{none_as, unexpected_is}

@@ -1,34 +1,34 @@
 -- The answers of `laid`, from those of the functions that it calls.
-use Prim.Native.Nat.{ℕ, zero, suc, ◌+◌, ◌*◌, ◌-◌, ◌≤◌, ◌<◌}
-use mathlib.Core.Path.{◌≡◌, refl, sym, ap, subst, ◌∙◌}
-use mathlib.Core.Bool.{Bool, true, false}
+use Prim.Native.Nat.{ℕ, suc, ◌+◌, ◌*◌, ◌-◌, ◌≤◌, ◌<◌}
+use mathlib.Core.Path.{◌≡◌, sym, ap, subst, ◌∙◌}
+use mathlib.Core.Bool.{Bool}
 use mathlib.Core.Logic.{◌⊎◌, inl, inr}
-use mathlib.Core.List.{List, [], ◌∷◌}
+use mathlib.Core.List.{List}
 use native.Mathlib.Omega.{arith}
 use lib.ListN.{length}
-use lib.Dec.{eqb, T}
+use lib.Dec.{T}
 use Rattle.reader.specs.declared.Step.{Step}
 use Rattle.grammar.specs.declared.shape.Instr.{Instr}
 use Rattle.grammar.specs.declared.moves.Went.{Went}
-use Rattle.engine.specs.Base.{Outcome, ok, halt, stuck, Rec, Tree, size}
+use Rattle.engine.specs.Base.{Outcome, ok, halt, stuck, Rec, Tree}
 use Rattle.engine.specs.BaseLaws.{size_pos}
-use Rattle.engine.specs.Engine.{FailIn, FailAt}
+use Rattle.engine.specs.Engine.{FailIn}
 use Rattle.engine.specs.Layout.{grammar}
 use Rattle.engine.specs.Way.{mid}
-use Rattle.grammar.specs.Moves.{Under, to, no, walk}
+use Rattle.grammar.specs.Moves.{Under}
 use Rattle.grammar.specs.Layouts.{Layout, layout_of}
-use Rattle.grammar.specs.Hcl.{hcl, bounds, under}
-use Rattle.grammar.specs.Code.{code, operation, argument, class, otherwise, class_of, move_at}
+use Rattle.grammar.specs.Hcl.{hcl}
+use Rattle.grammar.specs.Code.{code, operation, argument, class}
 use Rattle.grammar.specs.Table.{record_of}
-use Rattle.grammar.specs.Thrift.{eaten, bonus, spare, leads}
-use Rattle.grammar.specs.Wants.{want_in, below}
+use Rattle.grammar.specs.Thrift.{spare, leads}
+use Rattle.grammar.specs.Wants.{want_in}
 use Rattle.grammar.specs.Programmed.{instructions}
 use Rattle.grammar.specs.Said.{Instructed, Walked}
 use Rattle.reader.specs.Buffer.{put_at}
-use Rattle.reader.specs.Said.{step_of, Climbs, Good, Kept, Any, under_any, any_before, told_as, Said, SaidMade, SaidSub, Asked, Laying}
-use Rattle.reader.proofs.Answers.{good, stage_made, made_no, kept_join}
-use Rattle.reader.proofs.Ranks.{sub_rank, rank_most, lead_rank}
-use Rattle.reader.proofs.Laids.{Turn, Ended, step, sort, turn_fin, turn_stop, turn_other, turn_on, turn_kid, turn_kid_no, turn_rep, turn_rep_no, turn_lead, turn_again, turn_within, turn_later}
+use Rattle.reader.specs.Said.{step_of, Good, Kept, Any, under_any, any_before, told_as, Said, SaidMade, SaidSub}
+use Rattle.reader.proofs.Answers.{good, stage_made, made_no}
+use Rattle.reader.proofs.Ranks.{sub_rank, lead_rank}
+use Rattle.reader.proofs.Laids.{Turn, sort, turn_fin, turn_stop, turn_other, turn_on, turn_kid, turn_kid_no, turn_rep, turn_rep_no, turn_lead, turn_again, turn_within, turn_later}
 
 -- a reading has a record at least
 pub good_pos : {Z : Outcome ℕ (Tree ℕ) → Type 0} {s : List ℕ} {i u p : ℕ} {b b' x x' : List ℕ} {e n t : ℕ} → Good Z s i u p b b' x x' e n t → 1 ≤ n

@@ -1,28 +1,25 @@
 -- The program of a kind under way: what holds whenever its loop begins a turn, and what each instruction does.
-use Prim.Native.Nat.{ℕ, zero, suc, ◌+◌, ◌-◌, ◌≤◌, ◌<◌}
+use Prim.Native.Nat.{ℕ, suc, ◌+◌, ◌≤◌, ◌<◌}
 use mathlib.Core.Path.{◌≡◌, refl, sym, ap, subst, ◌∙◌}
 use mathlib.Core.Bool.{Bool, true, false, ◌&&◌, ◌||◌}
 use mathlib.Core.Logic.{◌⊎◌, inl, inr}
-use mathlib.Core.Option.{Option, none, some}
-use mathlib.Core.List.{List, [], ◌∷◌, ◌++◌}
+use mathlib.Core.List.{List}
 use native.Mathlib.Omega.{arith}
 use lib.ListN.{length}
-use lib.Dec.{eqb, leb, leb→le, ltb, ltb→lt, T}
-use Rattle.reader.specs.declared.Step.{Step}
-use Rattle.engine.specs.Base.{Outcome, ok, halt, Rec, Tree, Trees}
+use lib.Dec.{leb→le, ltb, ltb→lt, T}
 use Rattle.engine.specs.BaseLaws.{and_t, or_t}
 use Rattle.engine.specs.Engine.{FailIn, FailAt}
-use Rattle.engine.specs.Layout.{Lay, bad, fin, move, kid, fork, rep, grammar}
+use Rattle.engine.specs.Layout.{bad, fin, move, kid, fork, rep, grammar}
 use Rattle.engine.specs.Way.{mid}
 use Rattle.grammar.specs.Moves.{Under, to, no, walk, Move}
 use Rattle.grammar.specs.Moves as moves
 use Rattle.grammar.specs.Layouts.{Class, Layout, layout_of}
-use Rattle.grammar.specs.Hcl.{hcl, bounds, styles, under}
+use Rattle.grammar.specs.Hcl.{hcl, bounds, styles}
 use Rattle.grammar.specs.Code.{Codes, begin, code, operation, argument, class, otherwise, class_of, move_at}
 use Rattle.grammar.specs.Thrift.{thrift, eaten, bonus, spare, leads}
 use Rattle.grammar.specs.Programmed.{Programmed, ahead, instructions}
-use Rattle.grammar.specs.Wants.{want_in, fits_in, suited, below, down_below, class_steady, by_class}
-use Rattle.reader.specs.Said.{step_of, Climbs, Good, Kept, Any, under_any, any_before, Made}
+use Rattle.grammar.specs.Wants.{fits_in, suited, below, down_below, class_steady, by_class}
+use Rattle.reader.specs.Said.{Climbs, Good, Any, under_any, any_before}
 use Rattle.reader.proofs.Stages.{Stage, stage_start, stage_lay, stage_move, stage_yes, stage_no, stage_end, stage_stop, stage_kid, stage_rep, stage_kid_no, stage_rep_no}
 
 -- at pc, at the place q, n records and t text bytes since p

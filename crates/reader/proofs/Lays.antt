@@ -1,14 +1,14 @@
 -- The records and the texts in the lent buffers.
-use Prim.Native.Nat.{ℕ, suc, ◌+◌}
-use mathlib.Core.Path.{◌≡◌, refl, sym, ap, ◌∙◌}
+use Prim.Native.Nat.{ℕ, ◌+◌}
+use mathlib.Core.Path.{◌≡◌, refl, sym, ◌∙◌}
 use mathlib.Core.Bool.{Bool, true, false, ◌&&◌}
-use mathlib.Core.List.{List, [], ◌∷◌, ◌++◌, append_assoc, append-nil}
+use mathlib.Core.List.{List, [], ◌∷◌, ◌++◌, append_assoc}
 use native.Mathlib.Omega.{arith}
 use lib.ListN.{length, length-append}
 use lib.Dec.{eqb}
 use Rattle.lexis.specs.String.{laid}
-use Rattle.engine.specs.Base.{Tree, Trees, node, nil, cons, rec_of, size, sizes, join, one}
-use Rattle.grammar.specs.Table.{Record, record_of, span, own_as, own, total, texts_of, texts_ofs, records_of, records_ofs}
+use Rattle.engine.specs.Base.{Tree, Trees, node, nil, cons, rec_of, size, sizes, join}
+use Rattle.grammar.specs.Table.{Record, span, own_as, own, total, texts_of, texts_ofs, records_of, records_ofs}
 use Rattle.reader.specs.Buffer.{put_at, lay, write}
 
 -- ---- records

@@ -1,25 +1,24 @@
 -- What stands first where a quote is told by its byte alone, and what its first run says of it.
 use Prim.Native.Nat.{ℕ, ◌+◌}
-use mathlib.Core.Path.{◌≡◌, refl, sym, ap, subst, ◌∙◌}
-use mathlib.Core.Bool.{Bool, true, false, cond, not, ◌&&◌, ◌||◌}
+use mathlib.Core.Path.{◌≡◌, refl, sym, ap, ◌∙◌}
+use mathlib.Core.Bool.{Bool, true, false, cond, ◌||◌}
 use mathlib.Core.Option.{some}
 use mathlib.Core.List.{List, [], ◌∷◌}
 use native.Mathlib.Omega.{arith}
 use lib.Dec.{eqb}
-use borrow.Author.Tests.{eqb-true, eqb-false, eq-eqb, ne_eqb}
+use borrow.Author.Tests.{eqb-true, eqb-false, eq-eqb}
 use Rattle.reader.specs.declared.Step.{Step}
 use Rattle.lexis.specs.declared.string.Why.{Why}
 use Rattle.lexis.specs.declared.string.Why.TheVariants as why
 use Rattle.lexis.specs.declared.string.Run.{Run}
 use Rattle.lexis.specs.Bytes.{byte_at}
-use Rattle.lexis.specs.String.{quoted, text_at, RunHere}
-use Rattle.lexis.specs.RunLaws.{stands_one, stands_two, stands_cons, clash}
+use Rattle.lexis.specs.String.{quoted, RunHere}
+use Rattle.lexis.specs.RunLaws.{stands_one, stands_two, stands_cons}
 use Rattle.engine.specs.Base.{choose}
 use Rattle.grammar.specs.Kinds.{tight_of}
 use Rattle.grammar.specs.Moves.{an_expression}
-use Rattle.grammar.specs.Hcl.{under, pick_at, terms, is_template, is_broken}
+use Rattle.grammar.specs.Hcl.{under, pick_at, is_template, is_broken}
 use Rattle.grammar.specs.Alone.{head_of, HeadAt}
-use Rattle.grammar.specs.TextLaws.{pick_string, pick_template}
 use Rattle.reader.specs.Said.{Firsts, Heads, Said, Primary, LeadAt}
 use Rattle.reader.proofs.Terms.{term_picked, quote_by}
 use Rattle.reader.proofs.Firsts.{said_as, head_first, first_head}

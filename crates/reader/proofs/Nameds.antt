@@ -1,5 +1,5 @@
 -- An item whose key is a word alone: the laws of any item, with what is known of such a key.
-use Prim.Native.Nat.{ℕ, zero, suc, ◌+◌, ◌-◌, ◌*◌, ◌≤◌, ◌<◌}
+use Prim.Native.Nat.{ℕ, zero, suc, ◌+◌, ◌≤◌}
 use mathlib.Core.Path.{◌≡◌, refl, sym, ap, subst, ◌∙◌}
 use mathlib.Core.Bool.{Bool, true, false, cond, ◌&&◌}
 use mathlib.Core.List.{List, [], ◌∷◌}
@@ -9,19 +9,16 @@ use lib.Dec.{eqb}
 use borrow.Author.Tests.{eq-eqb, ne_eqb}
 use Rattle.reader.specs.declared.Step.{Step}
 use Rattle.grammar.specs.declared.moves.Went.{Went}
-use Rattle.grammar.specs.declared.picks.Key.{Key}
-use Rattle.lexis.specs.Bytes.{Ran, byte_at, is_start, stands}
+use Rattle.lexis.specs.Bytes.{stands}
 use Rattle.lexis.specs.Word.{constant_at}
-use Rattle.lexis.specs.Operator.{equals_to, is_mark}
 use Rattle.lexis.specs.RunLaws.{and_left}
-use Rattle.index.specs.Index.{Indexed}
-use Rattle.grammar.specs.Moves.{an_expression, behind_key, to, skip, gap_step}
+use Rattle.grammar.specs.Moves.{an_expression, behind_key}
 use Rattle.grammar.specs.Hcl.{under, bare}
-use Rattle.grammar.specs.Table.{Record, record_of}
+use Rattle.grammar.specs.Table.{record_of}
 use Rattle.grammar.specs.Said.{Moved, went}
-use Rattle.grammar.specs.Alone.{head_of, key_of, SignOf, Word}
+use Rattle.grammar.specs.Alone.{key_of, Word}
 use Rattle.reader.specs.Buffer.{put_at}
-use Rattle.reader.specs.Said.{step_of, Climbs, Kept, Said, SaidItem, Asked}
+use Rattle.reader.specs.Said.{step_of, Climbs, Said, SaidItem, Asked}
 use Rattle.reader.specs.Items.{met_in, is_bare, bared, equals_step, colon_step, Signed, Baring}
 use Rattle.reader.proofs.Answers.{good, kept_same, turning_start}
 use Rattle.reader.proofs.Exprs.{expr_stop}

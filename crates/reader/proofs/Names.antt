@@ -1,7 +1,7 @@
 -- Names and attributes, read by their bytes alone.
-use Prim.Native.Nat.{ℕ, suc, ◌+◌, ◌≤◌, ◌<◌}
-use mathlib.Core.Path.{◌≡◌, refl, sym, ◌∙◌}
-use mathlib.Core.Bool.{Bool, true, false}
+use Prim.Native.Nat.{ℕ, ◌+◌, ◌≤◌, ◌<◌}
+use mathlib.Core.Path.{◌≡◌, refl, ◌∙◌}
+use mathlib.Core.Bool.{Bool, true}
 use mathlib.Core.List.{List, [], ◌∷◌}
 use native.Mathlib.Omega.{arith}
 use lib.ListN.{length}
@@ -9,7 +9,7 @@ use lib.Dec.{eqb}
 use borrow.Author.Tests.{eq-eqb}
 use Rattle.reader.specs.declared.Step.{Step}
 use Rattle.grammar.specs.declared.moves.Went.{Went}
-use Rattle.lexis.specs.Bytes.{byte_at, stands, Ran}
+use Rattle.lexis.specs.Bytes.{byte_at, Ran}
 use Rattle.lexis.specs.Word.{ident_to}
 use Rattle.lexis.specs.RunLaws.{stands_one, inside}
 use Rattle.engine.specs.Layout.{fin, move}

@@ -1,11 +1,11 @@
 -- A production under way, told by its layout: what its moves come to, and the answers where one stops, at a child in brackets, and at the end.
-use Prim.Native.Nat.{ℕ, zero, suc, ◌+◌, ◌-◌, ◌≤◌, ◌<◌}
-use mathlib.Core.Path.{◌≡◌, refl, sym, ap, subst, ◌∙◌}
+use Prim.Native.Nat.{ℕ, zero, suc, ◌+◌, ◌-◌, ◌≤◌}
+use mathlib.Core.Path.{◌≡◌, refl, sym, ap, ◌∙◌}
 use mathlib.Core.Bool.{Bool, true, false, cond, ◌&&◌}
 use mathlib.Core.List.{List, [], ◌∷◌}
 use native.Mathlib.Omega.{arith}
 use lib.ListN.{length}
-use lib.Dec.{eqb, leb}
+use lib.Dec.{leb}
 use borrow.Author.Tests.{eq-eqb, ne_eqb}
 use Rattle.reader.specs.declared.Step.{Step}
 use Rattle.grammar.specs.declared.moves.Went.{Went}
@@ -14,17 +14,17 @@ use Rattle.lexis.specs.Word.{ident_to}
 use Rattle.engine.specs.Layout.{fin, move, kid}
 use Rattle.grammar.specs.Kinds.{Deep}
 use Rattle.grammar.specs.Moves.{Under, to, no, then, level, walk, atom, skip, unexpected, Move, ident, an_expression}
-use Rattle.grammar.specs.Layouts.{Layout, layout_of, inside, opening, plain, space, past}
+use Rattle.grammar.specs.Layouts.{Layout, layout_of, inside, opening, space, past}
 use Rattle.grammar.specs.Hcl.{under}
 use Rattle.grammar.specs.Table.{record_of}
 use Rattle.grammar.specs.Thrift.{spare}
-use Rattle.grammar.specs.Wants.{want_in, down_below}
-use Rattle.grammar.specs.Said.{went_of, Moved}
+use Rattle.grammar.specs.Wants.{down_below}
+use Rattle.grammar.specs.Said.{went_of}
 use Rattle.grammar.specs.TextLaws as text
 use Rattle.reader.specs.Buffer.{put_at}
 use Rattle.reader.specs.Said.{step_of, Climbs, Kept, Any, under_any, any_before, Said, SaidMade}
 use Rattle.reader.proofs.Answers.{good, stage_made, made_no}
-use Rattle.reader.proofs.Stages.{Stage, stage_start, stage_lay, stage_stop, stage_kid, stage_kid_no}
+use Rattle.reader.proofs.Stages.{stage_start, stage_lay, stage_stop, stage_kid, stage_kid_no}
 use Rattle.reader.proofs.Laids.{On}
 use Rattle.reader.proofs.Laidings.{pass_made}
 use Rattle.reader.proofs.Exprs.{unexpected_is}

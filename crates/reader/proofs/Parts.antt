@@ -1,9 +1,9 @@
 -- The parts of a traversal, one after the other: the answers of `part` and `parts`.
-use Prim.Native.Nat.{ℕ, suc, ◌+◌, ◌-◌, ◌≤◌, ◌<◌}
+use Prim.Native.Nat.{ℕ, ◌+◌, ◌≤◌, ◌<◌}
 use mathlib.Core.Path.{◌≡◌, refl, sym, ap, subst, ◌∙◌}
 use mathlib.Core.Bool.{Bool, true, false, ◌&&◌, ◌||◌}
 use mathlib.Core.Logic.{◌⊎◌, inl, inr}
-use mathlib.Core.Option.{Option, none, some}
+use mathlib.Core.Option.{some}
 use mathlib.Core.List.{List, [], ◌∷◌}
 use native.Mathlib.Omega.{arith}
 use lib.ListN.{length}
@@ -12,11 +12,10 @@ use borrow.Author.Tests.{eqb-true, eq-eqb}
 use Rattle.reader.specs.declared.Step.{Step}
 use Rattle.grammar.specs.declared.moves.Went.{Went}
 use Rattle.lexis.specs.Bytes.{byte_at}
-use Rattle.lexis.specs.RunLaws.{clash}
 use Rattle.engine.specs.Base.{choose}
-use Rattle.engine.specs.Layout.{fin, move, kid, rep}
-use Rattle.grammar.specs.Moves.{Under, Move, gap, parts, here, to, no, then, walk, atom, skip, is_part, a_part, unexpected}
-use Rattle.grammar.specs.Layouts.{Layout, layouts, layout_of, portion, traversal_lay}
+use Rattle.engine.specs.Layout.{fin, kid, rep}
+use Rattle.grammar.specs.Moves.{Under, Move, gap, parts, here, to, no, walk, atom, skip, is_part, a_part, unexpected}
+use Rattle.grammar.specs.Layouts.{layouts, layout_of, portion, traversal_lay}
 use Rattle.grammar.specs.Hcl.{under, pick_at, portions}
 use Rattle.grammar.specs.Table.{record_of}
 use Rattle.grammar.specs.Wants.{down_below}
@@ -31,7 +30,7 @@ use Rattle.reader.proofs.Stages.{stage_move, stage_kid, stage_kid_no, stage_rep,
 use Rattle.reader.proofs.Laids.{On}
 use Rattle.reader.proofs.Laidings.{pass_made, good_pos}
 use Rattle.reader.proofs.Subs.{sub_part_none, sub_part}
-use Rattle.reader.proofs.Ons.{unexpected_as, on_start, on_stop, on_else, on_fin}
+use Rattle.reader.proofs.Ons.{on_start, on_stop, on_else, on_fin}
 
 -- ---- the byte that a part begins with
 

@@ -1,34 +1,32 @@
 -- What stands first and holds text: strings, templates and heredocs.
 use Prim.Native.Nat.{ℕ, zero, suc, ◌+◌, ◌≤◌, ◌<◌}
 use mathlib.Core.Path.{◌≡◌, refl, sym, ap, subst, ◌∙◌}
-use mathlib.Core.Bool.{Bool, true, false, cond, ◌&&◌, ◌||◌}
+use mathlib.Core.Bool.{Bool, true, false, cond, ◌&&◌}
 use mathlib.Core.Logic.{inl, inr}
-use mathlib.Core.Option.{none, some}
+use mathlib.Core.Option.{some}
 use mathlib.Core.List.{List, [], ◌∷◌}
 use native.Mathlib.Omega.{arith}
 use lib.ListN.{length}
 use lib.Dec.{eqb}
-use borrow.Author.Tests.{eqb-true, eqb-false, eq-eqb, ne_eqb}
+use borrow.Author.Tests.{eqb-true, eq-eqb, ne_eqb}
 use Rattle.reader.specs.declared.Step.{Step}
 use Rattle.lexis.specs.declared.heredoc.Opener.{Opener}
-use Rattle.lexis.specs.Bytes.{byte_at, stands, is_start, is_foreign}
-use Rattle.lexis.specs.Word.{ident_to}
-use Rattle.lexis.specs.Heredoc.{line_end, fails, opens, opener_end, opener_word, opener_at, Opened}
-use Rattle.lexis.specs.RunLaws.{stands_one, stands_two, inside, and_left, clash}
-use Rattle.engine.specs.Base.{Outcome, ok, halt, stuck, Rec, nil, choose}
+use Rattle.lexis.specs.Bytes.{byte_at, is_foreign}
+use Rattle.lexis.specs.Heredoc.{opener_word, opener_at, Opened}
+use Rattle.lexis.specs.RunLaws.{stands_one, stands_two, inside, and_left}
+use Rattle.engine.specs.Base.{Outcome, ok, halt, stuck, Rec, nil}
 use Rattle.engine.specs.Engine.{Body}
-use Rattle.engine.specs.Layout.{move, fork, from}
+use Rattle.engine.specs.Layout.{move, fork}
 use Rattle.engine.specs.Way.{mid, Way, way_start, way_move, way_stop, way_yes, way_no}
-use Rattle.grammar.specs.Moves.{an_expression, Under, to, no, then, when, place, unexpected, Atom, mark, ident, ending, round, atom, walk}
-use Rattle.grammar.specs.Moves as moves
+use Rattle.grammar.specs.Moves.{an_expression, Under, to, no, place, unexpected, ident, ending, walk}
 use Rattle.grammar.specs.Kinds.{Foreign, Unexpected}
 use Rattle.grammar.specs.Layouts.{Layout, layouts, layout_of, plain, text_lay, template_lay, heredoc_lay}
-use Rattle.grammar.specs.Hcl.{hcl, under, pick_at, terms, is_template}
+use Rattle.grammar.specs.Hcl.{hcl, under, pick_at}
 use Rattle.grammar.specs.declared.moves.Went.{Went}
 use Rattle.grammar.specs.Said.{went, went_of}
 use Rattle.reader.specs.Said.{step_of, Asked, Heads, Said, Kept, Makes, Made, SaidMade, One, Texting}
 use Rattle.reader.specs.Text.{flag_of}
-use Rattle.grammar.specs.TextLaws.{pick_template, pick_heredoc, plain_yes, plain_no, quote_stands, opened, unexpected_is, Worded, word_opened}
+use Rattle.grammar.specs.TextLaws.{pick_template, pick_heredoc, plain_yes, plain_no, quote_stands, unexpected_is, Worded, word_opened}
 use Rattle.reader.proofs.Answers.{from_good, refused, done, done_head, head_no, kept_same}
 use Rattle.reader.proofs.Pieces.{halted}
 

@@ -1,11 +1,11 @@
 -- The ranks of children at the place where their node starts.
-use Prim.Native.Nat.{ℕ, ◌+◌, ◌*◌, ◌-◌, ◌≤◌, ◌<◌}
-use mathlib.Core.Path.{◌≡◌, refl, subst}
+use Prim.Native.Nat.{ℕ, ◌*◌, ◌-◌, ◌≤◌, ◌<◌}
+use mathlib.Core.Path.{◌≡◌}
 use mathlib.Core.Bool.{Bool, true, false, cond}
 use native.Mathlib.Omega.{arith}
 use lib.Dec.{eqb, eqb→eq, T}
-use borrow.Author.Tests.{eq-eqb, ne_eqb}
-use Rattle.grammar.specs.Layouts.{Class, inside, single, key, value, test, branch, term, right, entry, called, portion, piecewise, filter}
+use borrow.Author.Tests.{ne_eqb}
+use Rattle.grammar.specs.Layouts.{inside, single, test, branch, right, called, portion, filter}
 use Rattle.grammar.specs.Code.{class_of}
 use Rattle.grammar.specs.Thrift.{leads}
 

@@ -17,7 +17,7 @@ use Rattle.lexis.specs.RunLaws.{stands_one, stands_inside}
 use Rattle.lexis.specs.Keys.{key_to}
 use Rattle.grammar.specs.declared.moves.Went.{Went}
 use Rattle.grammar.specs.Kinds.{Unexpected, Foreign}
-use Rattle.grammar.specs.Moves.{Step, to, no, then, when, unexpected, skip, stop_step, marks, behind_key, lone}
+use Rattle.grammar.specs.Moves.{Step, to, no, then, when, unexpected, skip, stop_step, marks, behind_key}
 use Rattle.grammar.specs.Said.{went, went_of, Moved}
 use Rattle.reader.specs.declared.items.Sign.{Sign}
 use Rattle.reader.specs.Items.{met_in, behind_item, sign_step, equals_step, Signed, equals, colon, neither, Behind, SignedAt, is_bare, bared}

@@ -1,26 +1,25 @@
 -- A production under way: how far the engine's way got, and what is laid in the buffers. One rule for each constructor of a layout.
-use Prim.Native.Nat.{ℕ, zero, suc, ◌+◌, ◌-◌, ◌≤◌, ◌<◌}
-use mathlib.Core.Path.{◌≡◌, refl, sym, ap, subst, ◌∙◌}
-use mathlib.Core.Bool.{Bool, true, false}
-use mathlib.Core.Option.{Option, none, some}
-use mathlib.Core.List.{List, [], ◌∷◌, ◌++◌, append-nil}
+use Prim.Native.Nat.{ℕ, ◌+◌, ◌≤◌}
+use mathlib.Core.Path.{◌≡◌, refl, ap, subst, ◌∙◌}
+use mathlib.Core.Bool.{false}
+use mathlib.Core.Option.{some}
+use mathlib.Core.List.{List, ◌∷◌, ◌++◌, append-nil}
 use native.Mathlib.Omega.{arith}
 use lib.ListN.{length}
 use lib.Dec.{eqb}
-use Rattle.reader.specs.declared.Step.{Step}
-use Rattle.engine.specs.Base.{Outcome, ok, halt, Rec, Tree, Trees, node, nil, cons, rec_of, size, sizes, join, one, rename, renamed}
+use Rattle.engine.specs.Base.{Outcome, Rec, Tree, Trees, nil, rec_of, size, sizes, join, one, rename, renamed}
 use Rattle.engine.specs.BaseLaws.{rename_id}
 use Rattle.engine.specs.FlatLaws.{sizes_join}
-use Rattle.engine.specs.Engine.{Body, Whole, Fits, FailIn, FailAt}
-use Rattle.engine.specs.Layout.{Lay, bad, fin, move, kid, fork, rep, State, grammar, alias, named}
-use Rattle.engine.specs.Way.{mid, Way, way_start, way_fin, way_move, way_stop, way_kid, way_kid_no, way_yes, way_no, way_rep, way_rep_no, way_end, way_join}
-use Rattle.grammar.specs.Moves.{Under, to, no, walk, place, refusal, Move}
+use Rattle.engine.specs.Engine.{Whole, FailIn, FailAt}
+use Rattle.engine.specs.Layout.{move, kid, fork, rep, State, grammar, alias, named}
+use Rattle.engine.specs.Way.{mid, Way, way_start, way_move, way_stop, way_kid, way_kid_no, way_yes, way_no, way_rep, way_rep_no, way_end, way_join}
+use Rattle.grammar.specs.Moves.{Under, to, no, walk, place, Move}
 use Rattle.grammar.specs.Layouts.{Class, Layout}
-use Rattle.grammar.specs.Hcl.{hcl, downs, bounds, styles}
-use Rattle.grammar.specs.Table.{Record, record_of, records_of, records_ofs, texts_of, texts_ofs, total}
-use Rattle.reader.specs.Buffer.{put_at, lay, write}
-use Rattle.reader.specs.Said.{step_of, Climbs, Good, Makes, made_as, Made}
-use Rattle.reader.proofs.Lays.{lay_none, lay_join, lay_one, write_none, write_join, total_append, texts_join, records_join, lengths_records, length_records, texts_same, records_same}
+use Rattle.grammar.specs.Hcl.{hcl, bounds, styles}
+use Rattle.grammar.specs.Table.{records_of, records_ofs, texts_of, texts_ofs, total}
+use Rattle.reader.specs.Buffer.{lay, write}
+use Rattle.reader.specs.Said.{Climbs, Good}
+use Rattle.reader.proofs.Lays.{lay_none, lay_join, write_none, write_join, total_append, texts_join, records_join, lengths_records, texts_same, records_same}
 
 -- a tree stands in the buffers from the i-th record and the u-th text byte on: it ends at e, has n records and m text bytes
 pub record Put (s : List ℕ) (i u p : ℕ) (b b' x x' : List ℕ) (t : Tree ℕ) (e n m : ℕ) : Type 0 where

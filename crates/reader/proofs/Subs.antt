@@ -1,28 +1,27 @@
 -- The answers of `sub` and `prim`, from those of the functions that they call.
-use Prim.Native.Nat.{ℕ, zero, suc, ◌+◌, ◌%◌, ◌≤◌, ◌<◌}
+use Prim.Native.Nat.{ℕ, ◌%◌, ◌≤◌}
 use mathlib.Core.Path.{◌≡◌, refl, sym, ap, subst, subst₂, ◌∙◌}
 use mathlib.Core.Bool.{Bool, true, false, cond, ◌&&◌, ◌||◌}
-use mathlib.Core.Option.{Option, none, some}
-use mathlib.Core.List.{List, [], ◌∷◌}
+use mathlib.Core.Option.{some}
+use mathlib.Core.List.{List, []}
 use native.Mathlib.Omega.{arith}
 use lib.ListN.{length}
 use lib.Dec.{eqb, leb, leb→le, T}
 use borrow.Author.Tests.{ne_eqb, le-leb}
 use Rattle.reader.specs.declared.Step.{Step}
-use Rattle.engine.specs.Base.{has, all_of}
+use Rattle.engine.specs.Base.{has}
 use Rattle.lexis.specs.RunLaws.{clash}
 use Rattle.grammar.specs.declared.moves.Went.{Went}
 use Rattle.grammar.specs.declared.shape.Child.{Child}
 use Rattle.grammar.specs.Kinds.{tight_of}
 use Rattle.grammar.specs.Moves.{Want, Under, an_expression, a_name, a_part, a_condition, unexpected}
 use Rattle.grammar.specs.Layouts.{Class, inside, single, test, branch, right, layout_of}
-use Rattle.grammar.specs.Hcl.{hcl, pick_at, under, bounds}
+use Rattle.grammar.specs.Hcl.{pick_at, under, bounds}
 use Rattle.grammar.specs.Code.{class_of}
 use Rattle.grammar.specs.Thrift.{spare, bonus}
-use Rattle.grammar.specs.Wants.{want_in, want_as, below}
-use Rattle.grammar.specs.Programmed.{Programmed}
-use Rattle.grammar.specs.Said.{ChildOf, classes, want_of, PartAt, kind_of, went_of}
-use Rattle.grammar.specs.PickLaws.{listed, kind_some, pick_none, part_kind, portion_of, picked_name, picked_condition, picked_term, term_of, Term}
+use Rattle.grammar.specs.Wants.{want_in, below}
+use Rattle.grammar.specs.Said.{ChildOf, classes, PartAt, went_of}
+use Rattle.grammar.specs.PickLaws.{listed, kind_some, pick_none, part_kind, picked_name, picked_condition, picked_term, term_of, Term}
 use Rattle.reader.specs.Said.{step_of, Climbs, Heads, Kept, Any, under_any, any_before, Said, SaidMade, SaidSub, Primary}
 use Rattle.reader.proofs.Answers.{refused}
 use Rattle.reader.proofs.Exprs.{made_head, head_climb, none_as, unexpected_is}

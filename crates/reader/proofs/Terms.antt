@@ -1,6 +1,6 @@
 -- The kind of a term, and the answers of `term` for a unary operator.
-use Prim.Native.Nat.{ℕ, zero, suc, ◌+◌, ◌-◌, ◌≤◌, ◌<◌}
-use mathlib.Core.Path.{◌≡◌, refl, sym, ap, subst, ◌∙◌}
+use Prim.Native.Nat.{ℕ, ◌+◌, ◌-◌, ◌≤◌, ◌<◌}
+use mathlib.Core.Path.{◌≡◌, refl, sym, ap, ◌∙◌}
 use mathlib.Core.Bool.{Bool, true, false, ◌||◌}
 use mathlib.Core.Option.{some}
 use mathlib.Core.List.{List, []}
@@ -15,7 +15,7 @@ use Rattle.grammar.specs.Kinds.{tight_of, Deep}
 use Rattle.grammar.specs.Moves.{an_expression}
 use Rattle.grammar.specs.Hcl.{pick_at, under}
 use Rattle.grammar.specs.Table.{record_of}
-use Rattle.grammar.specs.Said.{TermAt, Moved, kind_of}
+use Rattle.grammar.specs.Said.{TermAt, Moved}
 use Rattle.grammar.specs.TextLaws.{pick_string, pick_template}
 use Rattle.grammar.specs.PickLaws.{listed, kind_some, picked_term, termed}
 use Rattle.reader.specs.Buffer.{put_at}

@@ -5,29 +5,23 @@ use mathlib.Core.Bool.{Bool, true, false, cond}
 use mathlib.Core.Option.{Option, some}
 use mathlib.Core.List.{List, [], ◌∷◌, ◌++◌, append-nil}
 use native.Mathlib.Omega.{arith}
-use lib.ListN.{length, drop}
-use borrow.Author.Tests.{ne_eqb}
-use Rattle.lexis.specs.declared.string.Why.{Why}
-use Rattle.lexis.specs.declared.string.Why.TheVariants as why
+use lib.ListN.{length}
 use Rattle.lexis.specs.declared.string.Run.{Run}
-use Rattle.lexis.specs.Bytes.{stands}
-use Rattle.lexis.specs.Heredoc.{fresh_at}
-use Rattle.lexis.specs.String.{Mode, quoted, not, text_at, mode_of, laid, RunHere}
+use Rattle.lexis.specs.String.{Mode, quoted, text_at, mode_of, laid, RunHere}
 use Rattle.engine.specs.Base.{Tree, node, nil, rec_of, join, one}
 use Rattle.engine.specs.FlatLaws.{sizes_join}
 use Rattle.engine.specs.Engine.{Whole, Fits}
 use Rattle.engine.specs.Layout.{rep, State, grammar, from}
 use Rattle.engine.specs.LayoutLaws.{after_cap}
 use Rattle.engine.specs.Way.{mid, way_start, way_fin, way_move, way_yes, way_no, way_rep, led, part_led, part_stop}
-use Rattle.grammar.specs.Kinds.{Unexpected}
-use Rattle.grammar.specs.Moves.{a_piece, Under, Step, to, no, then, place, Atom, piece, run, more, close, round, unit_at, close_by, goes_as, atom, Move, walk}
+use Rattle.grammar.specs.Moves.{a_piece, Under, place, more, round, Move}
 use Rattle.grammar.specs.Layouts.{Class, piecewise, Layout, layouts, piece_lay}
 use Rattle.grammar.specs.Hcl.{hcl, under, pick_at}
 use Rattle.grammar.specs.Sane.{sane}
 use Rattle.grammar.specs.Table.{record_of, span, own, records_of, records_ofs, texts_of, texts_ofs, total}
 use Rattle.reader.specs.Buffer.{write}
 use Rattle.reader.specs.Text.{flag_of, Pieced}
-use Rattle.grammar.specs.UnitLaws.{Stands, marks, run_escaped, run_length, run_end, run_some}
+use Rattle.grammar.specs.UnitLaws.{run_escaped, run_length, run_end, run_some}
 use Rattle.grammar.specs.TextLaws.{more_unit, piece_yes, piece_no, pick_piece}
 use Rattle.reader.proofs.Lays.{lay_join, lay_one, write_join, total_append, texts_join, records_join, lengths_records}
 use Rattle.reader.proofs.Stages.{Stage}

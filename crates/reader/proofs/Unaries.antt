@@ -1,31 +1,31 @@
 -- A unary operator: its level, the same-line space behind it, and its term.
 use Prim.Native.Nat.{ℕ, zero, suc, ◌+◌, ◌-◌, ◌≤◌, ◌<◌}
 use mathlib.Core.Path.{◌≡◌, refl, sym, ap, subst, ◌∙◌}
-use mathlib.Core.Bool.{Bool, true, false, not, ◌&&◌, ◌||◌}
-use mathlib.Core.Option.{Option, none, some}
+use mathlib.Core.Bool.{Bool, true, false, not, ◌||◌}
+use mathlib.Core.Option.{some}
 use mathlib.Core.List.{List, [], ◌∷◌}
 use native.Mathlib.Omega.{arith}
 use lib.ListN.{length}
-use lib.Dec.{eqb, T}
-use borrow.Author.Tests.{eqb-true, eq-eqb, ne_eqb}
+use lib.Dec.{eqb}
+use borrow.Author.Tests.{eqb-true}
 use Rattle.reader.specs.declared.Step.{Step}
 use Rattle.grammar.specs.declared.moves.Went.{Went}
-use Rattle.engine.specs.Base.{Outcome, ok, halt, stuck, Rec, Tree, rec_of, choose}
-use Rattle.engine.specs.Engine.{FailIn, FailAt, Whole}
-use Rattle.engine.specs.Layout.{Lay, fin, move, kid, grammar, after}
-use Rattle.engine.specs.Way.{mid, Part, part_stop, part_led, part_led_no}
+use Rattle.engine.specs.Base.{halt, rec_of, choose}
+use Rattle.engine.specs.Engine.{FailIn}
+use Rattle.engine.specs.Layout.{fin, move, kid, grammar, after}
+use Rattle.engine.specs.Way.{mid, part_stop, part_led, part_led_no}
 use Rattle.lexis.specs.Bytes.{byte_at, stands}
 use Rattle.lexis.specs.Operator.{is_mark, any_of}
 use Rattle.lexis.specs.RunLaws.{stands_one, stands_inside, and_left}
 use Rattle.grammar.specs.Kinds.{tight_of, Deep}
 use Rattle.grammar.specs.Moves.{Under, an_expression, to, no, when, level, atom, walk, skip, opens, gap, line, Move}
-use Rattle.grammar.specs.Layouts.{Class, Layout, layout_of, layouts, unary_lay, same_line, term}
-use Rattle.grammar.specs.Hcl.{hcl, pick_at, terms, follow_at, under, downs, bounds, styles}
+use Rattle.grammar.specs.Layouts.{Layout, layout_of, layouts, unary_lay, same_line, term}
+use Rattle.grammar.specs.Hcl.{hcl, pick_at, terms, follow_at, under}
 use Rattle.grammar.specs.Table.{record_of}
 use Rattle.grammar.specs.Said.{Moved}
 use Rattle.reader.specs.Buffer.{put_at}
-use Rattle.reader.specs.Said.{step_of, Climbs, Terms, Heads, Good, Kept, One, Said}
-use Rattle.reader.proofs.Answers.{good, from_good, refused, pass, done, done_head, head_no, stage_made, fits_all}
+use Rattle.reader.specs.Said.{step_of, Climbs, Terms, Good, Kept, One, Said}
+use Rattle.reader.proofs.Answers.{from_good, done, done_head, head_no, stage_made, fits_all}
 use Rattle.reader.proofs.Stages.{Stage, stage_start, stage_lay, stage_move, stage_stop, stage_kid, stage_kid_no}
 
 -- ---- what a choice says of its test

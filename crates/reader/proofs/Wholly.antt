@@ -1,7 +1,7 @@
 -- The answers of `whole` and of `read`.
-use Prim.Native.Nat.{ℕ, ◌+◌, ◌-◌, ◌*◌, ◌/◌, ◌≤◌, ◌<◌}
+use Prim.Native.Nat.{ℕ, ◌*◌, ◌/◌, ◌≤◌, ◌<◌}
 use mathlib.Core.Path.{◌≡◌, refl, sym, ap, ◌∙◌}
-use mathlib.Core.Bool.{Bool, true, false}
+use mathlib.Core.Bool.{Bool, false}
 use mathlib.Core.List.{List, [], ◌∷◌, ◌++◌}
 use native.Mathlib.Omega.{arith}
 use lib.ListN.{length, take, drop}
@@ -9,13 +9,11 @@ use lib.Dec.{eqb, ltb}
 use borrow.Author.Tests.{eq-eqb, ne_eqb, lt-ltb, le-ltb}
 use Rattle.reader.specs.declared.Step.{Step}
 use Rattle.reader.specs.declared.Answer.{Answer}
-use Rattle.engine.specs.Base.{Outcome, ok, halt, stuck, bind, Tree, rec_of, size}
+use Rattle.engine.specs.Base.{Outcome, ok, halt, stuck, bind, Tree, rec_of}
 use Rattle.engine.specs.BaseLaws.{ok_inj}
 use Rattle.engine.specs.Engine.{Whole, FailAt}
 use Rattle.engine.specs.Layout.{grammar}
-use Rattle.engine.specs.Progress.{reads}
 use Rattle.engine.specs.Theorem.{accepts, refuses}
-use Rattle.lexis.specs.Bytes.{byte_at, is_foreign}
 use Rattle.lexis.specs.Utf8.{first_bad}
 use Rattle.grammar.specs.declared.moves.Went.{Went}
 use Rattle.grammar.specs.Kinds.{Long, Utf8, Slots, Text, most}
@@ -29,7 +27,7 @@ use Rattle.grammar.specs.Checked.{checked}
 use Rattle.grammar.specs.RowLaws.{length_records}
 use Rattle.grammar.specs.Said.{Moved, went_of}
 use Rattle.reader.specs.Buffer.{lay, write, copied}
-use Rattle.reader.specs.Said.{step_of, Climbs, Good, Kept, told_as, Said}
+use Rattle.reader.specs.Said.{step_of, Climbs, Good, told_as, Said}
 use Rattle.reader.specs.Read.{Wholes, Fitting, Reads, answer_from}
 use Rattle.reader.specs.NodeTextLaws.{take_before}
 use Rattle.reader.specs.NodeReadLaws.{lay_behind, written}

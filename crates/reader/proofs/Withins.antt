@@ -1,13 +1,13 @@
 -- An expression in brackets: the answers of `within`.
-use Prim.Native.Nat.{ℕ, suc, ◌+◌, ◌-◌, ◌≤◌, ◌<◌}
+use Prim.Native.Nat.{ℕ, ◌+◌, ◌-◌, ◌≤◌, ◌<◌}
 use mathlib.Core.Path.{◌≡◌, refl, sym, ap, subst, ◌∙◌}
-use mathlib.Core.Bool.{Bool, true, false, ◌&&◌, ◌||◌}
-use mathlib.Core.Option.{Option, none, some}
+use mathlib.Core.Bool.{Bool, true, false}
+use mathlib.Core.Option.{some}
 use mathlib.Core.List.{List, [], ◌∷◌}
 use native.Mathlib.Omega.{arith}
 use lib.ListN.{length}
 use lib.Dec.{eqb}
-use borrow.Author.Tests.{eqb-true, eq-eqb}
+use borrow.Author.Tests.{eq-eqb}
 use Rattle.reader.specs.declared.Step.{Step}
 use Rattle.grammar.specs.declared.moves.Went.{Went}
 use Rattle.lexis.specs.Bytes.{byte_at, stands}
@@ -15,11 +15,11 @@ use Rattle.lexis.specs.RunLaws as runs
 use Rattle.engine.specs.Base.{Outcome, Tree}
 use Rattle.engine.specs.Layout.{fin, move, kid}
 use Rattle.grammar.specs.Kinds.{Deep}
-use Rattle.grammar.specs.Moves.{an_expression, a_part, unexpected}
-use Rattle.grammar.specs.Layouts.{Layout, layouts, layout_of, inside, opening, space, past}
+use Rattle.grammar.specs.Moves.{an_expression, unexpected}
+use Rattle.grammar.specs.Layouts.{layouts, layout_of, inside, opening, space, past}
 use Rattle.grammar.specs.Hcl.{under, pick_at}
 use Rattle.grammar.specs.Table.{record_of}
-use Rattle.grammar.specs.Said.{went_of, Moved, PartAt}
+use Rattle.grammar.specs.Said.{went_of, Moved}
 use Rattle.grammar.specs.TextLaws.{pick_chosen, or_none}
 use Rattle.reader.specs.Buffer.{put_at}
 use Rattle.reader.specs.Said.{step_of, Climbs, Kept, Any, under_any, any_before, Said, SaidMade, Asked, Closing, Bracketed}

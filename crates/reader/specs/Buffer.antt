@@ -1,5 +1,5 @@
 -- The lent buffers: records of seven numbers each, and texts, each only where it fits.
-use Rattle.std.specs.Prelude.{ℕ, suc, ◌+◌, ◌*◌, ◌/◌, List, [], ◌∷◌, ◌++◌, Bool, true, false, length, set, take, drop, ltb}
+use Rattle.std.specs.Prelude.{ℕ, ◌+◌, ◌*◌, ◌/◌, List, [], ◌∷◌, ◌++◌, Bool, true, false, length, set, take, drop, ltb}
 use Rattle.lexis.specs.String.{laid}
 use Rattle.grammar.specs.Table.{Record}
 

@@ -1,10 +1,10 @@
 -- What an answer of the reader's functions says.
-use Rattle.std.specs.Prelude.{ℕ, suc, ◌+◌, ◌*◌, ◌-◌, ◌≤◌, ◌<◌, ◌≡◌, List, [], ◌∷◌, Bool, true, false, ◌||◌, ◌⊎◌, length, take, eqb}
+use Rattle.std.specs.Prelude.{ℕ, ◌+◌, ◌*◌, ◌≤◌, ◌<◌, ◌≡◌, List, [], ◌∷◌, Bool, true, false, ◌||◌, ◌⊎◌, length, take, eqb}
 use Rattle.std.proofs.Math.Option.{some}
 use Rattle.reader.specs.declared.Step.{Step}
-use Rattle.engine.specs.Base.{Outcome, ok, halt, stuck, Rec, Tree, Trees, node, rec_of, size, sizes}
+use Rattle.engine.specs.Base.{Outcome, ok, halt, stuck, Rec, Tree, rec_of, size, sizes}
 use Rattle.engine.specs.Engine.{Body, Fits, FailIn, FailAt}
-use Rattle.engine.specs.Layout.{Lay, fin, move, kid, grammar, after}
+use Rattle.engine.specs.Layout.{fin, move, kid, grammar, after}
 use Rattle.engine.specs.Way.{Gives, Begins, Part, mid}
 use Rattle.lexis.specs.Bytes.{byte_at, stands}
 use Rattle.lexis.specs.Heredoc.{opener_at}
@@ -12,14 +12,14 @@ use Rattle.lexis.specs.String.{mode_of}
 use Rattle.lexis.specs.Keys.{among}
 use Rattle.grammar.specs.declared.picks.Head.{Head}
 use Rattle.grammar.specs.Alone.{HeadAt}
-use Rattle.grammar.specs.Moves.{Want, Under, an_expression, an_item, round}
+use Rattle.grammar.specs.Moves.{Under, an_expression, an_item, round}
 use Rattle.grammar.specs.Layouts.{Layout, layout_of, inside, opening, space, past}
 use Rattle.grammar.specs.Hcl.{hcl, under, pick_at, bounds}
 use Rattle.grammar.specs.Code.{class_of}
 use Rattle.grammar.specs.Thrift.{spare, bonus}
 use Rattle.grammar.specs.Wants.{want_in, below}
 use Rattle.grammar.specs.Programmed.{Programmed}
-use Rattle.grammar.specs.Table.{Record, record_of, records_of, records_ofs, texts_of, texts_ofs, total}
+use Rattle.grammar.specs.Table.{record_of, records_of, records_ofs, texts_of, texts_ofs, total}
 use Rattle.reader.specs.Buffer.{put_at, lay, write}
 use Rattle.reader.specs.Items.{met_in}
 

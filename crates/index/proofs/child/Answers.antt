@@ -1,5 +1,4 @@
 use Rattle.index.proofs.Finds.{child_read}
-use borrow.Author.Rules.{rules}
 use Rattle.index.proofs.child.Goals as goal
 
 pub returns : goal.returns

@@ -1,14 +1,10 @@
-use Prim.Native.Nat.{◌-◌}
-use mathlib.Core.Path.{◌≡◌, sym, ap, ◌∙◌}
-use mathlib.Core.Bool.{cond, not}
+use mathlib.Core.Path.{sym, ap, ◌∙◌}
+use mathlib.Core.Bool.{not}
 use native.Mathlib.Omega.{arith}
-use lib.ListN.{length, drop}
 use borrow.Author.Tests.{not-true, not-false}
 use Rattle.lexis.specs.Bytes.{is_start}
-use Rattle.lexis.specs.Keys.{alike, rest_of, same_key}
 use Rattle.lexis.proofs.Sames.{rests_end, rests_differ, rests_inside, rests_more, key_inside, keys_differ, keys_word}
-use Rattle.index.proofs.Finds.{Searching, search_start, search_next, search_less, other_mark, of_start, seek_met}
-use borrow.Author.Rules.{rules}
+use Rattle.index.proofs.Finds.{search_start, search_next, search_less, other_mark, of_start, seek_met}
 use Rattle.index.proofs.find.Goals as goal
 
 pub slots-init : goal.slots-init

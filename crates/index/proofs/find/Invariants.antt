@@ -1,14 +1,9 @@
 use Prim.Native.Nat.{◌-◌}
-use mathlib.Core.Path.{◌≡◌, sym, ap, ◌∙◌}
-use mathlib.Core.Bool.{cond, not}
-use native.Mathlib.Omega.{arith}
+use mathlib.Core.Path.{◌≡◌}
+use mathlib.Core.Bool.{cond}
 use lib.ListN.{length, drop}
-use borrow.Author.Tests.{not-true, not-false}
-use Rattle.lexis.specs.Bytes.{is_start}
 use Rattle.lexis.specs.Keys.{alike, rest_of, same_key}
-use Rattle.lexis.proofs.Sames.{rests_end, rests_differ, rests_inside, rests_more, key_inside, keys_differ, keys_word}
-use Rattle.index.proofs.Finds.{Searching, search_start, search_next, search_less, other_mark, of_start, seek_met}
-use borrow.Author.Rules.{rules}
+use Rattle.index.proofs.Finds.{Searching}
 use Rattle.index.proofs.find.Given as goal
 
 abbrev pub invariant-loop-a : goal.invariant-loop-a

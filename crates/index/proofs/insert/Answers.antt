@@ -1,10 +1,8 @@
 -- The four numbers of the slot are put; then the walk comes to where the path ends.
-use Prim.Native.Nat.{◌-◌}
 use mathlib.Core.Path.{refl, sym, ◌∙◌}
 use native.Mathlib.Omega.{arith}
 use lib.ListN.{length-set}
-use Rattle.index.proofs.Inserts.{Walking, insert_first, walk_start, walk_room, walk_more, walk_less, insert_linked}
-use borrow.Author.Rules.{rules}
+use Rattle.index.proofs.Inserts.{insert_first, walk_start, walk_room, walk_more, walk_less, insert_linked}
 use Rattle.index.proofs.insert.Goals as goal
 
 pub overflow_mul-at : goal.overflow_mul-at

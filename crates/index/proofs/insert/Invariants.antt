@@ -1,9 +1,5 @@
 use Prim.Native.Nat.{◌-◌}
-use mathlib.Core.Path.{refl, sym, ◌∙◌}
-use native.Mathlib.Omega.{arith}
-use lib.ListN.{length-set}
-use Rattle.index.proofs.Inserts.{Walking, insert_first, walk_start, walk_room, walk_more, walk_less, insert_linked}
-use borrow.Author.Rules.{rules}
+use Rattle.index.proofs.Inserts.{Walking}
 use Rattle.index.proofs.insert.Given as goal
 
 abbrev pub invariant-loop-keys : goal.invariant-loop-keys

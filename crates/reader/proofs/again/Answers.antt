@@ -1,6 +1,4 @@
 -- A source is read again, into the lent room.
-use mathlib.Core.Path.{refl, sym}
-use borrow.Author.Rules.{rules}
 use Rattle.reader.proofs.Wholly.{read_again}
 use Rattle.reader.proofs.again.Goals as goal
 

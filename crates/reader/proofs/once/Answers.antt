@@ -1,7 +1,6 @@
 -- A source is read into room of its own; what is copied of that is what reading would lay over the lent room.
-use mathlib.Core.Path.{refl, sym, ◌∙◌}
+use mathlib.Core.Path.{refl, sym}
 use native.Mathlib.Omega.{arith}
-use borrow.Author.Rules.{rules}
 use Rattle.reader.proofs.Wholly.{read_refused, read_slots, read_text_lem, fitting, read_copied}
 use Rattle.reader.proofs.once.Goals as goal
 

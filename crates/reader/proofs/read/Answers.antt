@@ -1,5 +1,4 @@
 use native.Mathlib.Omega.{arith}
-use borrow.Author.Rules.{rules}
 use Rattle.reader.proofs.Wholly.{read_long, read_bad}
 use Rattle.reader.proofs.read.Goals as goal
 

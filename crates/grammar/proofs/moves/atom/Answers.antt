@@ -2,7 +2,6 @@ use mathlib.Core.List.{[], ◌∷◌}
 use native.Mathlib.Omega.{arith}
 use Rattle.lexis.specs.Word.{if'}
 use Rattle.grammar.proofs.Steps.{made_gap, made_mark, made_opens, made_ahead, made_for, made_ident, made_number, made_index, made_operator, made_parts, made_unless, made_comma, made_call, made_keyword, made_at, made_else}
-use borrow.Author.Rules.{rules}
 use Rattle.grammar.proofs.moves.atom.Goals as goal
 
 pub returns-in-1 : goal.returns-in-1

@@ -4,7 +4,6 @@ use native.Mathlib.Omega.{arith}
 use Rattle.lexis.specs.RunLaws.{stands_inside}
 use borrow.Author.Tests.{not-true, not-false}
 use Rattle.grammar.proofs.Leaves.{call_opens, call_stuck, call_named}
-use borrow.Author.Rules.{rules}
 use Rattle.grammar.proofs.moves.call.Goals as goal
 
 pub returns-then-not-two_at : goal.returns-then-not-two_at

@@ -6,7 +6,6 @@ use Rattle.grammar.specs.Moves as moves
 use lib.Dec.{eqb}
 use borrow.Author.Tests.{eq-eqb, ne_eqb}
 use Rattle.grammar.proofs.Leaves.{one, other, comma_is}
-use borrow.Author.Rules.{rules}
 use Rattle.grammar.proofs.moves.comma.Goals as goal
 
 pub returns-then-byte_at-eq44 : goal.returns-then-byte_at-eq44

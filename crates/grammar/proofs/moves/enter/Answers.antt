@@ -4,7 +4,6 @@ use lib.Dec.{eqb}
 use mathlib.Core.Path.{sym, ap, ◌∙◌}
 use borrow.Author.Tests.{eq-eqb, ne_eqb}
 use Rattle.grammar.proofs.Leaves.{one, other, level_none, level_some}
-use borrow.Author.Rules.{rules}
 use Rattle.grammar.proofs.moves.enter.Goals as goal
 
 pub returns-then-e-p : goal.returns-then-e-p

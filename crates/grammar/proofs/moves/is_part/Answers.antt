@@ -3,7 +3,6 @@ use mathlib.Core.Bool.{not}
 use Prim.Native.Nat.{ℕ}
 use lib.Dec.{eqb}
 use Rattle.grammar.proofs.Leaves.{part_open, part_none, part_dot}
-use borrow.Author.Rules.{rules}
 use Rattle.grammar.proofs.moves.is_part.Goals as goal
 
 pub returns-then-b-eq91 : goal.returns-then-b-eq91

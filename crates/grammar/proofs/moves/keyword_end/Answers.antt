@@ -1,5 +1,4 @@
 use Rattle.grammar.proofs.Leaves.{word_by, word_if}
-use borrow.Author.Rules.{rules}
 use Rattle.grammar.proofs.moves.keyword_end.Goals as goal
 
 pub returns-in-1 : goal.returns-in-1

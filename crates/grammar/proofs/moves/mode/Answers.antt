@@ -1,5 +1,4 @@
 use Rattle.grammar.proofs.Leaves.{mode_any, mode_line, mode_here}
-use borrow.Author.Rules.{rules}
 use Rattle.grammar.proofs.moves.mode.Goals as goal
 
 pub returns-then-x-eq0 : goal.returns-then-x-eq0

@@ -3,7 +3,6 @@ use Rattle.grammar.specs.Moves as moves
 use lib.Dec.{eqb}
 use borrow.Author.Tests.{eq-eqb, ne_eqb}
 use Rattle.grammar.proofs.Leaves.{one, other, operator_is}
-use borrow.Author.Rules.{rules}
 use Rattle.grammar.proofs.moves.operator.Goals as goal
 
 pub returns-then-o-kind : goal.returns-then-o-kind

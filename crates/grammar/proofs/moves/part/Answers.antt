@@ -1,7 +1,6 @@
 use mathlib.Core.Path.{sym, ◌∙◌}
 use Rattle.grammar.specs.Moves as moves
 use Rattle.grammar.proofs.Leaves.{one, other, part_is}
-use borrow.Author.Rules.{rules}
 use Rattle.grammar.proofs.moves.part.Goals as goal
 
 pub returns-then-is_part : goal.returns-then-is_part

@@ -1,6 +1,5 @@
 use Rattle.grammar.specs.Moves as moves
 use Rattle.grammar.proofs.Leaves.{one, other, moved}
-use borrow.Author.Rules.{rules}
 use Rattle.grammar.proofs.moves.space.Goals as goal
 
 pub returns-then-g : goal.returns-then-g

@@ -2,7 +2,6 @@ use Rattle.grammar.specs.Moves as moves
 use lib.Dec.{eqb}
 use borrow.Author.Tests.{eq-eqb, ne_eqb}
 use Rattle.grammar.proofs.Leaves.{one, other}
-use borrow.Author.Rules.{rules}
 use Rattle.grammar.proofs.moves.token.Goals as goal
 
 pub returns-then-e-p : goal.returns-then-e-p

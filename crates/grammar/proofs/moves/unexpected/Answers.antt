@@ -1,7 +1,6 @@
 use Rattle.lexis.specs.Bytes.{is_foreign, byte_at}
 use Rattle.grammar.specs.Moves as moves
 use Rattle.grammar.proofs.Leaves.{one, other, tested}
-use borrow.Author.Rules.{rules}
 use Rattle.grammar.proofs.moves.unexpected.Goals as goal
 
 pub returns-then-is_foreign : goal.returns-then-is_foreign

@@ -4,7 +4,6 @@ use Rattle.grammar.specs.Moves as moves
 use lib.Dec.{eqb}
 use borrow.Author.Tests.{eq-eqb, ne_eqb}
 use Rattle.grammar.proofs.Leaves.{one, other, unless_is}
-use borrow.Author.Rules.{rules}
 use Rattle.grammar.proofs.moves.unless.Goals as goal
 
 pub returns-then-byte_at-x : goal.returns-then-byte_at-x

@@ -1,7 +1,4 @@
-use Prim.Native.Nat.{◌-◌}
-use native.Mathlib.Omega.{arith}
-use Rattle.grammar.proofs.Walks.{Walking, walking_start, walking_end, walking_no, walking_more}
-use borrow.Author.Rules.{rules}
+use Rattle.grammar.proofs.Walks.{walking_start, walking_end, walking_no, walking_more}
 use Rattle.grammar.proofs.moves.walk.Goals as goal
 
 pub loop-left-init : goal.loop-left-init

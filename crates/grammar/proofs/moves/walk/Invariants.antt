@@ -1,7 +1,5 @@
 use Prim.Native.Nat.{◌-◌}
-use native.Mathlib.Omega.{arith}
-use Rattle.grammar.proofs.Walks.{Walking, walking_start, walking_end, walking_no, walking_more}
-use borrow.Author.Rules.{rules}
+use Rattle.grammar.proofs.Walks.{Walking}
 use Rattle.grammar.proofs.moves.walk.Given as goal
 
 abbrev pub invariant-loop-left : goal.invariant-loop-left

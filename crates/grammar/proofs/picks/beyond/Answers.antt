@@ -1,5 +1,4 @@
 use Rattle.grammar.proofs.Callings.{beyond_open, beyond_shut}
-use borrow.Author.Rules.{rules}
 use Rattle.grammar.proofs.picks.beyond.Goals as goal
 
 pub returns-then-g : goal.returns-then-g

@@ -1,5 +1,4 @@
 use Rattle.grammar.proofs.Callings.{calls_open, calls_paren, calls_names}
-use borrow.Author.Rules.{rules}
 use Rattle.grammar.proofs.picks.calls.Goals as goal
 
 pub returns-then-g : goal.returns-then-g

@@ -1,5 +1,4 @@
 use Rattle.grammar.proofs.Callings.{follow_open, follow_operator, follow_question, follow_part, follow_none}
-use borrow.Author.Rules.{rules}
 use Rattle.grammar.proofs.picks.follow.Goals as goal
 
 pub returns-then-g : goal.returns-then-g

@@ -1,5 +1,4 @@
 use Rattle.grammar.proofs.Callings.{for_open, for_none, for_some}
-use borrow.Author.Rules.{rules}
 use Rattle.grammar.proofs.picks.for_at.Goals as goal
 
 pub returns-then-g : goal.returns-then-g

@@ -2,7 +2,6 @@ use borrow.Author.Tests.{not-false}
 use Rattle.lexis.specs.Bytes.{is_digit, is_start}
 use Rattle.grammar.proofs.Leaves.{tested}
 use Rattle.grammar.proofs.Heads.{head_digits, head_other, head_call, head_constant, head_variable}
-use borrow.Author.Rules.{rules}
 use Rattle.grammar.proofs.picks.head_at.Goals as goal
 
 pub returns-then-is_digit : goal.returns-then-is_digit

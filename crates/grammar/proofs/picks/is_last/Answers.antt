@@ -1,6 +1,5 @@
 -- `is_last` meets its contract.
 use Rattle.grammar.proofs.Lasts.{last_not, last_line, last_round, last_comma, last_square, last_brace}
-use borrow.Author.Rules.{rules}
 use Rattle.grammar.proofs.picks.is_last.Goals as goal
 
 pub returns-then-b-eq32 : goal.returns-then-b-eq32

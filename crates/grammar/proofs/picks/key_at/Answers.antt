@@ -3,7 +3,6 @@ use borrow.Author.Tests.{not-false}
 use Rattle.lexis.specs.Bytes.{is_start}
 use Rattle.grammar.proofs.Leaves.{tested}
 use Rattle.grammar.proofs.Keys.{key_none, key_constant, key_variable}
-use borrow.Author.Rules.{rules}
 use Rattle.grammar.proofs.picks.key_at.Goals as goal
 
 pub returns-then-not-is_start : goal.returns-then-not-is_start

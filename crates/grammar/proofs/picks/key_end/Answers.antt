@@ -1,5 +1,4 @@
 use Rattle.grammar.proofs.Callings.{key_word, key_string}
-use borrow.Author.Rules.{rules}
 use Rattle.grammar.proofs.picks.key_end.Goals as goal
 
 pub returns-then-byte_at-ne34 : goal.returns-then-byte_at-ne34

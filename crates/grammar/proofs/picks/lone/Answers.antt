@@ -1,5 +1,4 @@
 use Rattle.grammar.proofs.Callings.{lone_equals, lone_none, lone_colon}
-use borrow.Author.Rules.{rules}
 use Rattle.grammar.proofs.picks.lone.Goals as goal
 
 pub returns-then-equals_end-q : goal.returns-then-equals_end-q

@@ -4,7 +4,6 @@ use Rattle.lexis.specs.Bytes.{is_digit}
 use Rattle.lexis.specs.Trivia.{gap_to}
 use Rattle.grammar.specs.Said.{byte_beyond}
 use Rattle.grammar.proofs.Callings.{first, second}
-use borrow.Author.Rules.{rules}
 use Rattle.grammar.proofs.picks.minus_before.Goals as goal
 
 pub returns-then-is_digit : goal.returns-then-is_digit

@@ -1,6 +1,5 @@
 use Rattle.grammar.proofs.Callings.{follow_open, follow_question, follow_part, follow_none}
 use Rattle.grammar.proofs.Heads.{next_other, next_operator}
-use borrow.Author.Rules.{rules}
 use Rattle.grammar.proofs.picks.next_at.Goals as goal
 
 pub returns-then-is_last : goal.returns-then-is_last

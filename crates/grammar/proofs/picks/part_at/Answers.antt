@@ -1,6 +1,5 @@
 use mathlib.Core.Path.{sym, ◌∙◌}
 use Rattle.grammar.proofs.Callings.{part_full, part_index, part_splat, part_legacy, part_attribute, part_no}
-use borrow.Author.Rules.{rules}
 use Rattle.grammar.proofs.picks.part_at.Goals as goal
 
 pub returns-then-c-eq42 : goal.returns-then-c-eq42

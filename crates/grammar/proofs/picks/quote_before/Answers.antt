@@ -1,6 +1,5 @@
 use Rattle.grammar.specs.Said.{broken_at}
 use Rattle.grammar.proofs.Callings.{first, second, broken_by}
-use borrow.Author.Rules.{rules}
 use Rattle.grammar.proofs.picks.quote_before.Goals as goal
 
 pub returns-then-broken : goal.returns-then-broken

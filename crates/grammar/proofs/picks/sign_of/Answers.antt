@@ -1,5 +1,4 @@
 use Rattle.grammar.proofs.Keys.{sign_equals, sign_colon, sign_none}
-use borrow.Author.Rules.{rules}
 use Rattle.grammar.proofs.picks.sign_of.Goals as goal
 
 pub returns-then-equals_end-q : goal.returns-then-equals_end-q

@@ -2,7 +2,6 @@ use mathlib.Core.Path.{sym, ◌∙◌}
 use Rattle.lexis.specs.Bytes.{is_digit, is_start}
 use Rattle.grammar.proofs.Leaves.{tested}
 use Rattle.grammar.proofs.Callings.{term_digit, term_word, term_minus, term_unequal, term_not, term_parentheses, term_array, term_object, term_quote, term_heredoc, term_less, term_none}
-use borrow.Author.Rules.{rules}
 use Rattle.grammar.proofs.picks.term_at.Goals as goal
 
 pub returns-then-is_digit : goal.returns-then-is_digit

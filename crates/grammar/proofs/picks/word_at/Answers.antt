@@ -1,5 +1,4 @@
 use Rattle.grammar.proofs.Callings.{word_call, word_some, word_none}
-use borrow.Author.Rules.{rules}
 use Rattle.grammar.proofs.picks.word_at.Goals as goal
 
 pub returns-then-calls : goal.returns-then-calls

@@ -1,5 +1,4 @@
 use Rattle.grammar.proofs.Children.{inside, single, test, branch, called, portion, filter, operand}
-use borrow.Author.Rules.{rules}
 use Rattle.grammar.proofs.program.child.Goals as goal
 
 pub returns-in-0 : goal.returns-in-0

@@ -6,7 +6,6 @@ use Rattle.engine.specs.Base.{has}
 use Rattle.grammar.specs.Code.{operation, argument, class, otherwise}
 use Rattle.grammar.specs.Said.{classes}
 use Rattle.grammar.proofs.Tables.{class_known}
-use borrow.Author.Rules.{rules}
 use Rattle.grammar.proofs.program.instr.Goals as goal
 
 pub returns : goal.returns

@@ -2,7 +2,6 @@
 use mathlib.Core.Path.{sym, ◌∙◌}
 use borrow.Author.Tests.{not-true, not-false}
 use Rattle.index.proofs.Marks.{mark_text, mark_none, mark_word}
-use borrow.Author.Rules.{rules}
 use Rattle.index.proofs.mark.mark.Goals as goal
 
 pub returns-then-b-eq34 : goal.returns-then-b-eq34

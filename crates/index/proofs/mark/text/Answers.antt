@@ -1,10 +1,6 @@
 -- What is left of the text has the same mark.
-use Prim.Native.Nat.{◌-◌}
 use native.Mathlib.Omega.{arith}
-use lib.ListN.{length}
-use Rattle.lexis.specs.String.{quoted, text_at}
-use Rattle.index.proofs.Marks.{Mixing, mix_start, text_end, text_more}
-use borrow.Author.Rules.{rules}
+use Rattle.index.proofs.Marks.{mix_start, text_end, text_more}
 use Rattle.index.proofs.mark.text.Goals as goal
 
 pub loop-u-init : goal.loop-u-init

@@ -1,9 +1,7 @@
 use Prim.Native.Nat.{◌-◌}
-use native.Mathlib.Omega.{arith}
 use lib.ListN.{length}
 use Rattle.lexis.specs.String.{quoted, text_at}
-use Rattle.index.proofs.Marks.{Mixing, mix_start, text_end, text_more}
-use borrow.Author.Rules.{rules}
+use Rattle.index.proofs.Marks.{Mixing}
 use Rattle.index.proofs.mark.text.Given as goal
 
 abbrev pub invariant-loop-u : goal.invariant-loop-u

@@ -1,10 +1,8 @@
 -- The first byte says which key it is.
-use mathlib.Core.Path.{◌≡◌, sym, ◌∙◌}
-use borrow.Author.Tests.{not-true, not-false}
+use mathlib.Core.Path.{sym, ◌∙◌}
 use Rattle.lexis.specs.Bytes.{is_start}
 use Rattle.lexis.proofs.Runs.{tested}
 use Rattle.index.proofs.Marks.{token_none, token_text}
-use borrow.Author.Rules.{rules}
 use Rattle.index.proofs.mark.token_at.Goals as goal
 
 pub word_at-requires : goal.word_at-requires

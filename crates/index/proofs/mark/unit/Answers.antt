@@ -1,8 +1,6 @@
 -- What is left of the unit has the same mark.
 use native.Mathlib.Omega.{arith}
-use Rattle.lexis.specs.String.{unpacked}
-use Rattle.index.proofs.Marks.{Mixing, mix_start, unit_more, unit_end}
-use borrow.Author.Rules.{rules}
+use Rattle.index.proofs.Marks.{mix_start, unit_more, unit_end}
 use Rattle.index.proofs.mark.unit.Goals as goal
 
 pub loop-n-init : goal.loop-n-init

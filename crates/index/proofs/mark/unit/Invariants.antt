@@ -1,7 +1,5 @@
-use native.Mathlib.Omega.{arith}
 use Rattle.lexis.specs.String.{unpacked}
-use Rattle.index.proofs.Marks.{Mixing, mix_start, unit_more, unit_end}
-use borrow.Author.Rules.{rules}
+use Rattle.index.proofs.Marks.{Mixing}
 use Rattle.index.proofs.mark.unit.Given as goal
 
 abbrev pub invariant-loop-n : goal.invariant-loop-n

@@ -1,12 +1,8 @@
 -- What is left of the identifier has the same mark.
-use Prim.Native.Nat.{◌-◌}
 use native.Mathlib.Omega.{arith}
-use lib.ListN.{length, drop}
 use mathlib.Core.Path.{sym, ◌∙◌}
 use borrow.Author.Tests.{not-true, not-false}
-use Rattle.lexis.specs.Keys.{rest_of}
-use Rattle.index.proofs.Marks.{Mixing, mix_start, word_end, word_inside, word_more}
-use borrow.Author.Rules.{rules}
+use Rattle.index.proofs.Marks.{mix_start, word_end, word_inside, word_more}
 use Rattle.index.proofs.mark.word.Goals as goal
 
 pub loop-p-init : goal.loop-p-init

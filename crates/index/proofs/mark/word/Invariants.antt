@@ -1,11 +1,7 @@
 use Prim.Native.Nat.{◌-◌}
-use native.Mathlib.Omega.{arith}
 use lib.ListN.{length, drop}
-use mathlib.Core.Path.{sym, ◌∙◌}
-use borrow.Author.Tests.{not-true, not-false}
 use Rattle.lexis.specs.Keys.{rest_of}
-use Rattle.index.proofs.Marks.{Mixing, mix_start, word_end, word_inside, word_more}
-use borrow.Author.Rules.{rules}
+use Rattle.index.proofs.Marks.{Mixing}
 use Rattle.index.proofs.mark.word.Given as goal
 
 abbrev pub invariant-loop-p : goal.invariant-loop-p

@@ -1,13 +1,7 @@
 use Prim.Native.Nat.{◌-◌}
-use native.Mathlib.Omega.{arith}
-use mathlib.Core.Path.{◌≡◌, sym, ◌∙◌}
 use lib.ListN.{length}
-use borrow.Author.Tests.{not-true, not-false}
-use Rattle.lexis.specs.Bytes.{byte_at, is_within}
 use Rattle.lexis.specs.Word.{ident_to}
-use Rattle.lexis.proofs.Runs.{small_rest}
-use Rattle.index.proofs.Marks.{Wording, wording_start, wording_on, word_to_lem, token_stop, token_last}
-use borrow.Author.Rules.{rules}
+use Rattle.index.proofs.Marks.{Wording}
 use Rattle.index.proofs.mark.word_at.Given as goal
 
 abbrev pub invariant-loop-i : goal.invariant-loop-i

@@ -1,7 +1,5 @@
 use Prim.Native.Nat.{◌-◌}
-use native.Mathlib.Omega.{arith}
-use Rattle.index.proofs.Marks.{Wording, wording_start, wording_inside, wording_more, wording_end, byte_here}
-use borrow.Author.Rules.{rules}
+use Rattle.index.proofs.Marks.{Wording}
 use Rattle.index.proofs.mark.word_to.Given as goal
 
 abbrev pub invariant-loop-i : goal.invariant-loop-i

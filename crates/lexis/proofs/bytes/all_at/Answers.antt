@@ -1,14 +1,11 @@
 -- The loop keeps that what is left of w stands behind what was passed.
-use Prim.Native.Nat.{◌≤◌, ◌+◌, ◌-◌}
+use Prim.Native.Nat.{◌+◌}
 use Rattle.lexis.specs.RunLaws.{stands_inside}
 use Rattle.lexis.proofs.Runs.{all_start, all_more, all_end, all_fails}
-use Rattle.lexis.specs.Bytes.{stands}
-use borrow.Author.Rules.{rules}
 use borrow.Author.Tests.{not-true, not-false}
 use lib.ListN.{get_or}
-use lib.ListN.{length, drop}
 use mathlib.Core.List.{[], ◌∷◌}
-use mathlib.Core.Path.{◌≡◌, sym, ◌∙◌}
+use mathlib.Core.Path.{sym, ◌∙◌}
 use native.Mathlib.Omega.{arith}
 use Rattle.lexis.proofs.bytes.all_at.Goals as goal
 

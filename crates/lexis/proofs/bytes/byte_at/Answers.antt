@@ -1,7 +1,6 @@
 -- `byte_at` gives the byte at p, or 256 past the end.
 use Prim.Native.Nat.{ℕ}
 use Rattle.lexis.specs.RunLaws.{default}
-use borrow.Author.Rules.{rules}
 use lib.ListN.{get_or-eq_default}
 use mathlib.Core.Path.{sym}
 use native.Mathlib.Omega.{arith}

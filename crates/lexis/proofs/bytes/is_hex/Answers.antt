@@ -1,5 +1,4 @@
 use Rattle.lexis.specs.RunLaws.{or_yes, or_no}
-use borrow.Author.Rules.{rules}
 use Rattle.lexis.proofs.bytes.is_hex.Goals as goal
 
 pub returns-then-is_digit : goal.returns-then-is_digit

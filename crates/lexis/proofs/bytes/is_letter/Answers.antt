@@ -1,5 +1,4 @@
 use Rattle.lexis.specs.RunLaws.{or_yes, or_no}
-use borrow.Author.Rules.{rules}
 use Rattle.lexis.proofs.bytes.is_letter.Goals as goal
 
 pub returns-then-within : goal.returns-then-within

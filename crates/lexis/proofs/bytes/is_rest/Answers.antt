@@ -1,7 +1,6 @@
 -- By where the byte lies.
-use mathlib.Core.Path.{◌≡◌, ◌∙◌}
+use mathlib.Core.Path.{◌∙◌}
 use Rattle.lexis.proofs.Runs.{rest_below, rest_dash, rest_digit, rest_start}
-use borrow.Author.Rules.{rules}
 use Rattle.lexis.proofs.bytes.is_rest.Goals as goal
 
 pub returns-then-b-lt45 : goal.returns-then-b-lt45

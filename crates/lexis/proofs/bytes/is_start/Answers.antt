@@ -1,5 +1,4 @@
 use Rattle.lexis.specs.RunLaws.{or_yes, or_no}
-use borrow.Author.Rules.{rules}
 use mathlib.Core.Path.{refl}
 use Rattle.lexis.proofs.bytes.is_start.Goals as goal
 

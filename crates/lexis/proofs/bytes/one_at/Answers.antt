@@ -1,5 +1,4 @@
 use Rattle.lexis.specs.RunLaws.{stands_here, stands_past}
-use borrow.Author.Rules.{rules}
 use borrow.Author.Tests.{le-ltb}
 use mathlib.Core.List.{[]}
 use mathlib.Core.Path.{sym, ◌∙◌}

@@ -1,5 +1,4 @@
 use Rattle.lexis.specs.RunLaws.{stands_inside, stands_on, stands_off}
-use borrow.Author.Rules.{rules}
 use mathlib.Core.List.{[], ◌∷◌}
 use mathlib.Core.Path.{sym, ◌∙◌}
 use native.Mathlib.Omega.{arith}

@@ -1,6 +1,5 @@
 -- An identifier, and a line ending behind it.
 use Rattle.lexis.proofs.Openers.{word_none, word_line, word_good}
-use borrow.Author.Rules.{rules}
 use Rattle.lexis.proofs.heredoc.delimiter_at.Goals as goal
 
 pub returns-then-e-d : goal.returns-then-e-d

@@ -1,11 +1,10 @@
-use Prim.Native.Nat.{◌+◌, ◌-◌, ◌<◌, min}
-use mathlib.Core.Path.{◌≡◌, refl, sym, ◌∙◌}
+use Prim.Native.Nat.{◌<◌, min}
+use mathlib.Core.Path.{refl, sym, ◌∙◌}
 use native.Mathlib.Omega.{arith}
-use lib.ListN.{length, drop}
-use Rattle.lexis.specs.Bytes.{begins, byte_at}
+use lib.ListN.{length}
+use Rattle.lexis.specs.Bytes.{byte_at}
 use Rattle.lexis.specs.Heredoc.{part}
 use Rattle.lexis.proofs.Lines.{byte_small, part_hit, part_miss, part_long, line_text, delimited, ends_text, ends_foreign, ends_closes}
-use borrow.Author.Rules.{rules}
 use Rattle.lexis.proofs.heredoc.line_at.Goals as goal
 
 pub loop-k-init : goal.loop-k-init

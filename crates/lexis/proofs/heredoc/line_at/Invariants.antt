@@ -1,11 +1,8 @@
-use Prim.Native.Nat.{◌+◌, ◌-◌, ◌<◌, min}
-use mathlib.Core.Path.{◌≡◌, refl, sym, ◌∙◌}
-use native.Mathlib.Omega.{arith}
+use Prim.Native.Nat.{◌+◌, ◌-◌}
+use mathlib.Core.Path.{◌≡◌}
 use lib.ListN.{length, drop}
-use Rattle.lexis.specs.Bytes.{begins, byte_at}
+use Rattle.lexis.specs.Bytes.{begins}
 use Rattle.lexis.specs.Heredoc.{part}
-use Rattle.lexis.proofs.Lines.{byte_small, part_hit, part_miss, part_long, line_text, delimited, ends_text, ends_foreign, ends_closes}
-use borrow.Author.Rules.{rules}
 use Rattle.lexis.proofs.heredoc.line_at.Given as goal
 
 abbrev pub invariant-loop-k : goal.invariant-loop-k

@@ -6,7 +6,6 @@ use borrow.Author.Tests.{not-true, not-false}
 use native.Mathlib.Omega.{arith}
 use Rattle.lexis.specs.RunLaws.{stands_inside}
 use Rattle.lexis.proofs.Openers.{open_none, open_plain, open_dash}
-use borrow.Author.Rules.{rules}
 use Rattle.lexis.proofs.heredoc.opener_at.Goals as goal
 
 pub returns-then-not-two_at : goal.returns-then-not-two_at

@@ -1,10 +1,9 @@
-use Prim.Native.Nat.{◌+◌, ◌-◌, ◌≤◌, ◌<◌}
-use mathlib.Core.Path.{◌≡◌, refl, sym, ap, ◌∙◌}
+use Prim.Native.Nat.{◌<◌}
+use mathlib.Core.Path.{refl, sym, ap, ◌∙◌}
 use native.Mathlib.Omega.{arith}
 use lib.ListN.{length}
-use Rattle.lexis.specs.Bytes.{is_space, run_to}
+use Rattle.lexis.specs.Bytes.{is_space}
 use Rattle.lexis.specs.RunLaws.{run_on, run_stop, inside}
-use borrow.Author.Rules.{rules}
 use Rattle.lexis.proofs.heredoc.spaces_end.Goals as goal
 
 pub loop-i-init : goal.loop-i-init

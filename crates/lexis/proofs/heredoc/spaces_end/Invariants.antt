@@ -1,10 +1,7 @@
-use Prim.Native.Nat.{◌+◌, ◌-◌, ◌≤◌, ◌<◌}
-use mathlib.Core.Path.{◌≡◌, refl, sym, ap, ◌∙◌}
-use native.Mathlib.Omega.{arith}
+use Prim.Native.Nat.{◌+◌, ◌-◌, ◌≤◌}
+use mathlib.Core.Path.{◌≡◌}
 use lib.ListN.{length}
 use Rattle.lexis.specs.Bytes.{is_space, run_to}
-use Rattle.lexis.specs.RunLaws.{run_on, run_stop, inside}
-use borrow.Author.Rules.{rules}
 use Rattle.lexis.proofs.heredoc.spaces_end.Given as goal
 
 abbrev pub invariant-loop-i : goal.invariant-loop-i

@@ -2,7 +2,6 @@ use mathlib.Core.Path.{sym, ap, ◌∙◌}
 use Prim.Native.Nat.{ℕ}
 use lib.Dec.{eqb}
 use Rattle.lexis.proofs.Lines.{fresh_behind}
-use borrow.Author.Rules.{rules}
 use Rattle.lexis.proofs.heredoc.starts_line.Goals as goal
 
 pub returns-else-p-eq0 : goal.returns-else-p-eq0

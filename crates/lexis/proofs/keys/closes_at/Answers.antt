@@ -2,7 +2,6 @@
 use native.Mathlib.Omega.{arith}
 use mathlib.Core.Path.{sym, ◌∙◌}
 use Rattle.lexis.proofs.SameTexts.{closes_not, closes_by}
-use borrow.Author.Rules.{rules}
 use Rattle.lexis.proofs.keys.closes_at.Goals as goal
 
 pub returns-then-u-ne0 : goal.returns-then-u-ne0

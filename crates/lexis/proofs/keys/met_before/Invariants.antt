@@ -1,14 +1,8 @@
 use Prim.Native.Nat.{◌-◌}
-use mathlib.Core.Path.{◌≡◌, refl, sym, ap, ◌∙◌}
-use mathlib.Core.Bool.{not}
-use native.Mathlib.Omega.{arith}
+use mathlib.Core.Path.{◌≡◌}
 use lib.ListN.{length, drop}
-use borrow.Author.Tests.{not-true, not-false}
-use Rattle.lexis.specs.Bytes.{is_start}
 use Rattle.lexis.specs.Heredoc.{part}
 use Rattle.lexis.specs.Keys.{alike, rest_of, same_key, among, met_before}
-use Rattle.lexis.proofs.Sames.{rests_end, rests_differ, rests_inside, rests_more, key_other, key_inside, keys_differ, keys_string, keys_word, search_end, search_other, search_on, search_met}
-use borrow.Author.Rules.{rules}
 use Rattle.lexis.proofs.keys.met_before.Given as goal
 
 abbrev pub invariant-loop-a : goal.invariant-loop-a

@@ -4,7 +4,6 @@ use native.Mathlib.Omega.{arith}
 use borrow.Author.Tests.{not-true, not-false}
 use Rattle.lexis.specs.Bytes.{is_start}
 use Rattle.lexis.proofs.Sames.{keys_differ, keys_string, keys_other, keys_word, key_inside}
-use borrow.Author.Rules.{rules}
 use Rattle.lexis.proofs.keys.same_key.Goals as goal
 
 pub returns-then-x-y : goal.returns-then-x-y

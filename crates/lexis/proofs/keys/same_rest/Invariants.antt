@@ -1,12 +1,7 @@
 use Prim.Native.Nat.{◌-◌}
-use mathlib.Core.Path.{◌≡◌, refl, sym, ap, ◌∙◌}
-use mathlib.Core.Bool.{not}
-use native.Mathlib.Omega.{arith}
+use mathlib.Core.Path.{◌≡◌}
 use lib.ListN.{length, drop}
-use borrow.Author.Tests.{not-true, not-false}
 use Rattle.lexis.specs.Keys.{alike, rest_of}
-use Rattle.lexis.proofs.Sames.{rests_end, rests_differ, rests_inside, rests_more}
-use borrow.Author.Rules.{rules}
 use Rattle.lexis.proofs.keys.same_rest.Given as goal
 
 abbrev pub invariant-loop-a : goal.invariant-loop-a

@@ -1,11 +1,8 @@
 -- Each turn reads a unit of one side or compares a byte of both; the units that are unread, and then the bytes that are left, grow fewer.
-use Prim.Native.Nat.{◌+◌, ◌*◌, ◌-◌}
 use mathlib.Core.Path.{sym, ◌∙◌}
 use native.Mathlib.Omega.{arith}
-use lib.ListN.{length}
 use borrow.Author.Tests.{not-true, not-false}
-use Rattle.lexis.proofs.SameTexts.{Left, left_start, take_here, take_there, ends_before, ends_open, ends_closed, ends_after, bytes_differ, bytes_more}
-use borrow.Author.Rules.{rules}
+use Rattle.lexis.proofs.SameTexts.{left_start, take_here, take_there, ends_before, ends_open, ends_closed, ends_after, bytes_differ, bytes_more}
 use Rattle.lexis.proofs.keys.same_text.Goals as goal
 
 pub loop-n-init : goal.loop-n-init

@@ -1,10 +1,6 @@
 use Prim.Native.Nat.{◌+◌, ◌*◌, ◌-◌}
-use mathlib.Core.Path.{sym, ◌∙◌}
-use native.Mathlib.Omega.{arith}
 use lib.ListN.{length}
-use borrow.Author.Tests.{not-true, not-false}
-use Rattle.lexis.proofs.SameTexts.{Left, left_start, take_here, take_there, ends_before, ends_open, ends_closed, ends_after, bytes_differ, bytes_more}
-use borrow.Author.Rules.{rules}
+use Rattle.lexis.proofs.SameTexts.{Left}
 use Rattle.lexis.proofs.keys.same_text.Given as goal
 
 abbrev pub invariant-loop-n : goal.invariant-loop-n

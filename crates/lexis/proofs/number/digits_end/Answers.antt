@@ -1,12 +1,9 @@
 -- The loop keeps the end of the run of digits.
-use Prim.Native.Nat.{◌≤◌, ◌+◌, ◌-◌}
 use Rattle.lexis.specs.RunLaws.{inside, run_on, run_stop}
 use Rattle.lexis.proofs.Runs.{tested}
-use Rattle.lexis.specs.Bytes.{is_digit, run_to}
-use borrow.Author.Rules.{rules}
+use Rattle.lexis.specs.Bytes.{is_digit}
 use borrow.Author.Tests.{not-true, not-false}
-use lib.ListN.{length}
-use mathlib.Core.Path.{◌≡◌, refl, sym, ◌∙◌}
+use mathlib.Core.Path.{refl, sym, ◌∙◌}
 use native.Mathlib.Omega.{arith}
 use Rattle.lexis.proofs.number.digits_end.Goals as goal
 

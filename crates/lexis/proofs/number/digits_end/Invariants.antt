@@ -1,12 +1,7 @@
 use Prim.Native.Nat.{◌≤◌, ◌+◌, ◌-◌}
-use Rattle.lexis.specs.RunLaws.{inside, run_on, run_stop}
-use Rattle.lexis.proofs.Runs.{tested}
 use Rattle.lexis.specs.Bytes.{is_digit, run_to}
-use borrow.Author.Rules.{rules}
-use borrow.Author.Tests.{not-true, not-false}
 use lib.ListN.{length}
-use mathlib.Core.Path.{◌≡◌, refl, sym, ◌∙◌}
-use native.Mathlib.Omega.{arith}
+use mathlib.Core.Path.{◌≡◌}
 use Rattle.lexis.proofs.number.digits_end.Given as goal
 
 abbrev pub invariant-loop-p : goal.invariant-loop-p

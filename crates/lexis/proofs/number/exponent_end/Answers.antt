@@ -2,7 +2,6 @@ use Rattle.lexis.proofs.Numbers.{no_digit, a_digit, no_exponent, exponent}
 use Rattle.lexis.specs.RunLaws.{inside}
 use Rattle.lexis.proofs.Runs.{tested}
 use Rattle.lexis.specs.Number.{is_exponent}
-use borrow.Author.Rules.{rules}
 use borrow.Author.Tests.{not-true, not-false}
 use mathlib.Core.Path.{refl, sym, ◌∙◌}
 use native.Mathlib.Omega.{arith}

@@ -1,6 +1,5 @@
 use Prim.Native.Nat.{◌+◌}
 use Rattle.lexis.proofs.Numbers.{no_digit, a_digit, no_fraction, fraction}
-use borrow.Author.Rules.{rules}
 use mathlib.Core.Path.{sym, ◌∙◌}
 use native.Mathlib.Omega.{arith}
 use Rattle.lexis.proofs.number.fraction_end.Goals as goal

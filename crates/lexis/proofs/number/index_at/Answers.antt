@@ -1,14 +1,12 @@
 -- The loop keeps the end of the digits and their value: v is the value of those passed, those left follow it, and c is the byte at i.
-use Prim.Native.Nat.{ℕ, ◌≤◌, ◌+◌, ◌*◌, ◌-◌}
+use Prim.Native.Nat.{ℕ, ◌+◌, ◌*◌, ◌-◌}
 use Rattle.lexis.proofs.Numbers.{digits, digit_low, digit_high, index_zero, index_ends, index_more, index_over, over_by}
 use Rattle.lexis.specs.RunLaws.{inside, run_on}
 use Rattle.lexis.proofs.Runs.{tested}
-use Rattle.lexis.specs.Bytes.{is_digit, Byte}
-use Rattle.lexis.specs.Number.{digits_to, limit, value, value_from}
-use borrow.Author.Rules.{rules}
+use Rattle.lexis.specs.Bytes.{is_digit}
+use Rattle.lexis.specs.Number.{value_from}
 use borrow.Author.Tests.{not-true, not-false}
-use lib.ListN.{length}
-use mathlib.Core.Path.{◌≡◌, refl, sym, ap, ◌∙◌}
+use mathlib.Core.Path.{refl, sym, ap, ◌∙◌}
 use native.Mathlib.Omega.{arith}
 use Rattle.lexis.proofs.number.index_at.Goals as goal
 

@@ -1,5 +1,4 @@
 use Rattle.lexis.proofs.Numbers.{no_digit, a_digit, no_number, number_is}
-use borrow.Author.Rules.{rules}
 use mathlib.Core.Path.{sym}
 use native.Mathlib.Omega.{arith}
 use Rattle.lexis.proofs.number.number_end.Goals as goal

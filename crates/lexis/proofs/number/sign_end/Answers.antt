@@ -1,5 +1,4 @@
 use Rattle.lexis.proofs.Numbers.{no_sign}
-use borrow.Author.Rules.{rules}
 use mathlib.Core.Path.{sym, ◌∙◌}
 use native.Mathlib.Omega.{arith}
 use Rattle.lexis.proofs.number.sign_end.Goals as goal

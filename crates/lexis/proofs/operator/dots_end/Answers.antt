@@ -1,6 +1,5 @@
 use Rattle.lexis.proofs.Operators.{mark_off, mark_by_lem, marked}
 use Rattle.lexis.specs.RunLaws.{stands_inside}
-use borrow.Author.Rules.{rules}
 use mathlib.Core.List.{[], ◌∷◌}
 use mathlib.Core.Path.{refl, sym, ◌∙◌}
 use native.Mathlib.Omega.{arith}

@@ -1,6 +1,5 @@
 use Rattle.lexis.proofs.Operators.{mark_off, marked, equals_off, equals_on}
 use Rattle.lexis.specs.RunLaws.{stands_inside}
-use borrow.Author.Rules.{rules}
 use borrow.Author.Tests.{not-true, not-false}
 use mathlib.Core.List.{[], ◌∷◌}
 use mathlib.Core.Path.{refl, sym, ◌∙◌}

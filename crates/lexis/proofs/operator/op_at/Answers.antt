@@ -1,6 +1,5 @@
 -- The operator at p, by its first byte and, where it matters, the one behind it.
 use Rattle.lexis.proofs.Operators.{op_here, op_by, op_none, chosen}
-use borrow.Author.Rules.{rules}
 use mathlib.Core.Path.{sym, ◌∙◌}
 use Rattle.lexis.proofs.operator.op_at.Goals as goal
 

@@ -2,7 +2,6 @@ use mathlib.Core.Path.{sym, ap, ◌∙◌}
 use borrow.Author.Tests.{not-true, not-false}
 use Rattle.lexis.specs.String.{piece_of}
 use Rattle.lexis.proofs.Spelling.{scalar_no, scalar_one, scalar_two, scalar_three, scalar_four}
-use borrow.Author.Rules.{rules}
 use Rattle.lexis.proofs.string.encode.Goals as goal
 
 pub returns-then-not-is_scalar : goal.returns-then-not-is_scalar

@@ -4,7 +4,6 @@ use native.Mathlib.Omega.{arith}
 use lib.ListN.{drop}
 use Rattle.lexis.specs.String.{piece_of, escape}
 use Rattle.lexis.proofs.Spelling.{escape_none}
-use borrow.Author.Rules.{rules}
 use Rattle.lexis.proofs.string.escape_at.Goals as goal
 
 pub returns-then-b-eq110 : goal.returns-then-b-eq110

@@ -1,7 +1,6 @@
 use mathlib.Core.Path.{sym, ◌∙◌}
 use native.Mathlib.Omega.{arith}
 use Rattle.lexis.proofs.Spelling.{between, hex_digit, hex_small, hex_large, hex_none}
-use borrow.Author.Rules.{rules}
 use Rattle.lexis.proofs.string.hex_value.Goals as goal
 
 pub overflow_sub-result : goal.overflow_sub-result

@@ -6,7 +6,6 @@ use Rattle.lexis.specs.Bytes.{byte_at}
 use Rattle.lexis.specs.String.{piece_of}
 use Rattle.lexis.proofs.Spelling.{packs, pack_two}
 use Rattle.lexis.proofs.Units.{marker_ends, marker_other, marker_alone, marker_escaped}
-use borrow.Author.Rules.{rules}
 use Rattle.lexis.proofs.string.marker_at.Goals as goal
 
 pub returns-then-c-eq-BRACE : goal.returns-then-c-eq-BRACE

@@ -2,7 +2,6 @@ use mathlib.Core.Path.{refl, ◌∙◌}
 use mathlib.Core.List.{[], ◌∷◌}
 use mathlib.Core.Bool.{true}
 use Rattle.lexis.proofs.Spelling.{packs, pack_one}
-use borrow.Author.Rules.{rules}
 use Rattle.lexis.proofs.string.one.Goals as goal
 
 pub returns : goal.returns

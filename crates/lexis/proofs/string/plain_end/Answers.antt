@@ -1,14 +1,10 @@
 -- The loop keeps the end of the run of bytes that are text as they stand.
-use Prim.Native.Nat.{◌≤◌, ◌+◌, ◌-◌}
 use Rattle.lexis.specs.RunLaws.{inside, run_on, run_stop}
 use Rattle.lexis.proofs.Runs.{tested}
-use Rattle.lexis.specs.Bytes.{run_to}
 use Rattle.lexis.specs.String.{plain_in}
 use borrow.Author.Tests.{not-true, not-false}
-use lib.ListN.{length}
-use mathlib.Core.Path.{◌≡◌, refl, sym, ◌∙◌}
+use mathlib.Core.Path.{refl, sym, ◌∙◌}
 use native.Mathlib.Omega.{arith}
-use borrow.Author.Rules.{rules}
 use Rattle.lexis.proofs.string.plain_end.Goals as goal
 
 pub loop-p-init : goal.loop-p-init

@@ -1,13 +1,8 @@
 use Prim.Native.Nat.{◌≤◌, ◌+◌, ◌-◌}
-use Rattle.lexis.specs.RunLaws.{inside, run_on, run_stop}
-use Rattle.lexis.proofs.Runs.{tested}
 use Rattle.lexis.specs.Bytes.{run_to}
 use Rattle.lexis.specs.String.{plain_in}
-use borrow.Author.Tests.{not-true, not-false}
 use lib.ListN.{length}
-use mathlib.Core.Path.{◌≡◌, refl, sym, ◌∙◌}
-use native.Mathlib.Omega.{arith}
-use borrow.Author.Rules.{rules}
+use mathlib.Core.Path.{◌≡◌}
 use Rattle.lexis.proofs.string.plain_end.Given as goal
 
 abbrev pub invariant-loop-p : goal.invariant-loop-p

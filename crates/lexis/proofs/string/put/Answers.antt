@@ -1,7 +1,5 @@
-use Prim.Native.Nat.{◌-◌}
 use native.Mathlib.Omega.{arith}
-use Rattle.lexis.proofs.Writes.{Putting, put_start, put_more, put_end}
-use borrow.Author.Rules.{rules}
+use Rattle.lexis.proofs.Writes.{put_start, put_more, put_end}
 use Rattle.lexis.proofs.string.put.Goals as goal
 
 pub loop-k-init : goal.loop-k-init

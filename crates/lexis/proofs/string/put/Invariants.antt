@@ -1,7 +1,5 @@
 use Prim.Native.Nat.{◌-◌}
-use native.Mathlib.Omega.{arith}
-use Rattle.lexis.proofs.Writes.{Putting, put_start, put_more, put_end}
-use borrow.Author.Rules.{rules}
+use Rattle.lexis.proofs.Writes.{Putting}
 use Rattle.lexis.proofs.string.put.Given as goal
 
 abbrev pub invariant-loop-k : goal.invariant-loop-k

@@ -1,13 +1,7 @@
-use Prim.Native.Nat.{◌-◌, ◌≤◌}
-use mathlib.Core.Path.{sym, ◌∙◌}
-use mathlib.Core.Logic.{⊎_elim}
-use native.Mathlib.Omega.{arith}
+use Prim.Native.Nat.{◌-◌}
 use lib.ListN.{length}
-use borrow.Author.Tests.{not-true, eqb-true}
-use Rattle.lexis.specs.RunLaws.{clash}
 use Rattle.lexis.specs.String.{mode_of}
-use Rattle.lexis.proofs.Texts.{Going, going_start, going_stop, going_more, going_run, going_same, going_quote}
-use borrow.Author.Rules.{rules}
+use Rattle.lexis.proofs.Texts.{Going}
 use Rattle.lexis.proofs.string.run_at.Given as goal
 
 abbrev pub invariant-loop-k : goal.invariant-loop-k

@@ -1,12 +1,10 @@
-use Prim.Native.Nat.{ℕ, ◌+◌, ◌-◌, ◌≤◌}
+use Prim.Native.Nat.{ℕ, ◌+◌, ◌-◌}
 use mathlib.Core.Path.{◌≡◌, sym, ap, ◌∙◌}
 use mathlib.Core.Bool.{cond}
 use native.Mathlib.Omega.{arith}
-use lib.ListN.{drop}
 use Rattle.lexis.specs.Bytes.{is_hex}
-use Rattle.lexis.specs.String.{piece_of, hexes, hex_of}
+use Rattle.lexis.specs.String.{piece_of, hex_of}
 use Rattle.lexis.proofs.Spelling.{turn_end, turn_off, turn_on, turn_over}
-use borrow.Author.Rules.{rules}
 use Rattle.lexis.proofs.string.scalar_at.Goals as goal
 
 pub loop-k-init : goal.loop-k-init

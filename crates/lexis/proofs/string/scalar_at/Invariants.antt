@@ -1,12 +1,7 @@
-use Prim.Native.Nat.{ℕ, ◌+◌, ◌-◌, ◌≤◌}
-use mathlib.Core.Path.{◌≡◌, sym, ap, ◌∙◌}
-use mathlib.Core.Bool.{cond}
-use native.Mathlib.Omega.{arith}
+use Prim.Native.Nat.{◌+◌, ◌-◌, ◌≤◌}
+use mathlib.Core.Path.{◌≡◌}
 use lib.ListN.{drop}
-use Rattle.lexis.specs.Bytes.{is_hex}
-use Rattle.lexis.specs.String.{piece_of, hexes, hex_of}
-use Rattle.lexis.proofs.Spelling.{turn_end, turn_off, turn_on, turn_over}
-use borrow.Author.Rules.{rules}
+use Rattle.lexis.specs.String.{hexes}
 use Rattle.lexis.proofs.string.scalar_at.Given as goal
 
 abbrev pub invariant-loop-k : goal.invariant-loop-k

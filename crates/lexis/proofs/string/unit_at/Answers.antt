@@ -3,7 +3,6 @@ use lib.ListN.{drop}
 use borrow.Author.Tests.{not-true, not-false}
 use Rattle.lexis.specs.String.{piece_of, unit}
 use Rattle.lexis.proofs.Units.{unit_here, unit_sound, unit_end, unit_dollar, unit_percent, unit_heredoc, unit_quote, unit_escape, unit_plain}
-use borrow.Author.Rules.{rules}
 use Rattle.lexis.proofs.string.unit_at.Goals as goal
 
 pub returns-then-s-p : goal.returns-then-s-p

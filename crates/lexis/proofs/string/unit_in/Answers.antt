@@ -6,7 +6,6 @@ use Rattle.lexis.specs.declared.heredoc.Line.{Line}
 use Rattle.lexis.specs.String.{piece_of, unit, unit_in, line_or, mode_of}
 use Rattle.lexis.proofs.Units.{unit_here, same_here}
 use Rattle.lexis.proofs.Texts.{in_sound, in_end, in_quoted, in_text, in_line}
-use borrow.Author.Rules.{rules}
 use Rattle.lexis.proofs.string.unit_in.Goals as goal
 
 pub returns-then-s-p : goal.returns-then-s-p

@@ -1,8 +1,6 @@
 use Prim.Native.Nat.{◌-◌}
-use native.Mathlib.Omega.{arith}
-use Rattle.lexis.specs.String.{mode_of, text_at}
-use Rattle.lexis.proofs.Writes.{Writing, write_start, write_more, write_end, write_none, ahead_of, turn, run_ends, run_counts}
-use borrow.Author.Rules.{rules}
+use Rattle.lexis.specs.String.{mode_of}
+use Rattle.lexis.proofs.Writes.{Writing}
 use Rattle.lexis.proofs.string.write.Given as goal
 
 abbrev pub invariant-loop-i : goal.invariant-loop-i

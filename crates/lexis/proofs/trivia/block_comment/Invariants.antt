@@ -1,12 +1,8 @@
 use Prim.Native.Nat.{◌≤◌, ◌+◌, ◌-◌}
-use Rattle.lexis.specs.RunLaws.{reach, reach_on, reach_stop}
-use Rattle.lexis.proofs.Trivias.{closes_here, closes_not, closes_half, closes_late, block_found, block_endless}
-use Rattle.lexis.specs.Trivia.{closes, ends_at}
-use borrow.Author.Rules.{rules}
+use Rattle.lexis.specs.RunLaws.{reach}
+use Rattle.lexis.specs.Trivia.{closes}
 use lib.ListN.{length}
-use mathlib.Core.Logic.{⊎_elim}
-use mathlib.Core.Path.{◌≡◌, refl, sym, ap, ◌∙◌}
-use native.Mathlib.Omega.{arith}
+use mathlib.Core.Path.{◌≡◌}
 use Rattle.lexis.proofs.trivia.block_comment.Given as goal
 
 abbrev pub invariant-loop-i : goal.invariant-loop-i

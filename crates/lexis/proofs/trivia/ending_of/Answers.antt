@@ -2,7 +2,6 @@
 use Prim.Native.Nat.{◌+◌}
 use Rattle.lexis.specs.RunLaws.{stands_inside, here}
 use Rattle.lexis.proofs.Trivias.{ending_lf, ending_cr, ending_none}
-use borrow.Author.Rules.{rules}
 use mathlib.Core.List.{[], ◌∷◌}
 use mathlib.Core.Path.{sym, ◌∙◌}
 use native.Mathlib.Omega.{arith}

@@ -6,7 +6,6 @@ use Rattle.lexis.specs.Trivia.{placed}
 use borrow.Author.Tests.{not-true, not-false}
 use mathlib.Core.Path.{refl, sym, ap, ◌∙◌}
 use native.Mathlib.Omega.{arith}
-use borrow.Author.Rules.{rules}
 use Rattle.lexis.proofs.trivia.item_at.Goals as goal
 
 pub returns-then-b-gt47 : goal.returns-then-b-gt47

@@ -1,11 +1,7 @@
 -- The loop keeps what the comment is, read from the place on.
-use Prim.Native.Nat.{◌≤◌, ◌+◌, ◌-◌}
 use Rattle.lexis.specs.RunLaws.{default}
 use Rattle.lexis.proofs.Trivias.{comment_step}
-use Rattle.lexis.specs.Trivia.{line_comment}
-use borrow.Author.Rules.{rules}
-use lib.ListN.{length, drop}
-use mathlib.Core.Path.{◌≡◌, refl, ◌∙◌}
+use mathlib.Core.Path.{refl, ◌∙◌}
 use native.Mathlib.Omega.{arith}
 use Rattle.lexis.proofs.trivia.lf_at.Goals as goal
 

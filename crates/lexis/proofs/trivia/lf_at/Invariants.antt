@@ -1,11 +1,7 @@
 use Prim.Native.Nat.{◌≤◌, ◌+◌, ◌-◌}
-use Rattle.lexis.specs.RunLaws.{default}
-use Rattle.lexis.proofs.Trivias.{comment_step}
 use Rattle.lexis.specs.Trivia.{line_comment}
-use borrow.Author.Rules.{rules}
 use lib.ListN.{length, drop}
-use mathlib.Core.Path.{◌≡◌, refl, ◌∙◌}
-use native.Mathlib.Omega.{arith}
+use mathlib.Core.Path.{◌≡◌}
 use Rattle.lexis.proofs.trivia.lf_at.Given as goal
 
 abbrev pub invariant-loop-i : goal.invariant-loop-i

@@ -2,7 +2,6 @@
 use Rattle.lexis.specs.RunLaws.{reach_end}
 use Rattle.lexis.proofs.Trivias.{comment_lf, comment_cut}
 use Rattle.lexis.specs.Trivia.{ends_line}
-use borrow.Author.Rules.{rules}
 use mathlib.Core.Path.{◌∙◌}
 use native.Mathlib.Omega.{arith}
 use Rattle.lexis.proofs.trivia.line_comment.Goals as goal

@@ -1,12 +1,9 @@
 -- The loop keeps the place at which trivia ends.
-use Prim.Native.Nat.{◌≤◌, ◌+◌, ◌-◌}
 use Rattle.lexis.specs.RunLaws.{here}
 use Rattle.lexis.proofs.Trivias.{gap_stop, gap_on, gap_space, gap_other, gapped}
-use Rattle.lexis.specs.Trivia.{opens_comment, gap_to}
-use borrow.Author.Rules.{rules}
+use Rattle.lexis.specs.Trivia.{opens_comment}
 use borrow.Author.Tests.{not-true}
-use lib.ListN.{length}
-use mathlib.Core.Path.{◌≡◌, refl, sym, ap, ◌∙◌}
+use mathlib.Core.Path.{refl, sym, ap, ◌∙◌}
 use native.Mathlib.Omega.{arith}
 use Rattle.lexis.proofs.trivia.skip.Goals as goal
 

@@ -1,12 +1,7 @@
 use Prim.Native.Nat.{◌≤◌, ◌+◌, ◌-◌}
-use Rattle.lexis.specs.RunLaws.{here}
-use Rattle.lexis.proofs.Trivias.{gap_stop, gap_on, gap_space, gap_other, gapped}
-use Rattle.lexis.specs.Trivia.{opens_comment, gap_to}
-use borrow.Author.Rules.{rules}
-use borrow.Author.Tests.{not-true}
+use Rattle.lexis.specs.Trivia.{gap_to}
 use lib.ListN.{length}
-use mathlib.Core.Path.{◌≡◌, refl, sym, ap, ◌∙◌}
-use native.Mathlib.Omega.{arith}
+use mathlib.Core.Path.{◌≡◌}
 use Rattle.lexis.proofs.trivia.skip.Given as goal
 
 abbrev pub invariant-loop-i : goal.invariant-loop-i

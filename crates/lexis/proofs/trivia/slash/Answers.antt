@@ -2,7 +2,6 @@
 use Rattle.lexis.specs.RunLaws.{here}
 use Rattle.lexis.proofs.Trivias.{item_block, item_slash, item_slashes, item_comment, comment_slashes}
 use Rattle.lexis.specs.Trivia.{placed}
-use borrow.Author.Rules.{rules}
 use borrow.Author.Tests.{not-true, not-false}
 use mathlib.Core.Path.{sym, ap, ◌∙◌}
 use native.Mathlib.Omega.{arith}

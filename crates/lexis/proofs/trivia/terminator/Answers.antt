@@ -2,7 +2,6 @@
 use Prim.Native.Nat.{◌+◌}
 use Rattle.lexis.specs.RunLaws.{here}
 use Rattle.lexis.proofs.Trivias.{stop_comma, stop_hash, stop_slash, stop_slashes, comment_hash, comment_slashes, stop_line, stop_none}
-use borrow.Author.Rules.{rules}
 use mathlib.Core.Path.{sym, ◌∙◌}
 use native.Mathlib.Omega.{arith}
 use Rattle.lexis.proofs.trivia.terminator.Goals as goal

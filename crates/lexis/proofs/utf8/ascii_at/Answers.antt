@@ -1,5 +1,4 @@
 use Rattle.lexis.proofs.Blocks.{block_long, block_short}
-use borrow.Author.Rules.{rules}
 use Rattle.lexis.proofs.utf8.ascii_at.Goals as goal
 
 pub returns-then-s-p-ge-BLOCK : goal.returns-then-s-p-ge-BLOCK

@@ -2,7 +2,6 @@ use borrow.Author.Tests.{not-true, not-false}
 use mathlib.Core.Path.{sym}
 use mathlib.Core.Bool.{true, false}
 use Rattle.lexis.proofs.Sequences.{tested, behind_no, behind_one, behind_two_no, behind_two, behind_three}
-use borrow.Author.Rules.{rules}
 use Rattle.lexis.proofs.utf8.behind.Goals as goal
 
 pub returns-then-not-within : goal.returns-then-not-within

@@ -1,12 +1,9 @@
 -- Both loops keep that the bytes before the place are good.
-use Prim.Native.Nat.{◌+◌, ◌-◌, ◌≤◌}
-use mathlib.Core.Path.{◌≡◌, ◌∙◌, sym}
+use mathlib.Core.Path.{◌∙◌, sym}
 use native.Mathlib.Omega.{arith}
-use lib.ListN.{drop, length}
-use Rattle.lexis.specs.Utf8.{first_bad}
+use lib.ListN.{drop}
 use Rattle.lexis.proofs.Blocks.{block_inside, block_on}
 use Rattle.lexis.proofs.Sequences.{good_on, good_stop}
-use borrow.Author.Rules.{rules}
 use Rattle.lexis.proofs.utf8.first_bad.Goals as goal
 
 pub loop-i-init : goal.loop-i-init

@@ -1,11 +1,7 @@
 use Prim.Native.Nat.{◌+◌, ◌-◌, ◌≤◌}
-use mathlib.Core.Path.{◌≡◌, ◌∙◌, sym}
-use native.Mathlib.Omega.{arith}
+use mathlib.Core.Path.{◌≡◌}
 use lib.ListN.{drop, length}
 use Rattle.lexis.specs.Utf8.{first_bad}
-use Rattle.lexis.proofs.Blocks.{block_inside, block_on}
-use Rattle.lexis.proofs.Sequences.{good_on, good_stop}
-use borrow.Author.Rules.{rules}
 use Rattle.lexis.proofs.utf8.first_bad.Given as goal
 
 abbrev pub invariant-loop-n : goal.invariant-loop-n

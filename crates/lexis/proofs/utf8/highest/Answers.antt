@@ -1,10 +1,9 @@
 -- The loop keeps that the greatest byte is the greater of m and what is left of the block.
-use Prim.Native.Nat.{ℕ, ◌≤◌, ◌+◌, ◌-◌, max}
+use Prim.Native.Nat.{ℕ, ◌+◌, ◌-◌, max}
 use Rattle.lexis.specs.Utf8.{greatest}
 use Rattle.lexis.proofs.Blocks.{greatest_start, greatest_on, greatest_end}
-use borrow.Author.Rules.{rules}
 use lib.ListN.{take, drop}
-use mathlib.Core.Path.{◌≡◌, sym, ap, ◌∙◌}
+use mathlib.Core.Path.{sym, ap, ◌∙◌}
 use native.Mathlib.Omega.{arith}
 use Rattle.lexis.proofs.utf8.highest.Goals as goal
 

@@ -1,10 +1,7 @@
-use Prim.Native.Nat.{ℕ, ◌≤◌, ◌+◌, ◌-◌, max}
+use Prim.Native.Nat.{◌≤◌, ◌+◌, ◌-◌, max}
 use Rattle.lexis.specs.Utf8.{greatest}
-use Rattle.lexis.proofs.Blocks.{greatest_start, greatest_on, greatest_end}
-use borrow.Author.Rules.{rules}
 use lib.ListN.{take, drop}
-use mathlib.Core.Path.{◌≡◌, sym, ap, ◌∙◌}
-use native.Mathlib.Omega.{arith}
+use mathlib.Core.Path.{◌≡◌}
 use Rattle.lexis.proofs.utf8.highest.Given as goal
 
 abbrev pub invariant-loop-i : goal.invariant-loop-i

@@ -4,7 +4,6 @@ use native.Mathlib.Omega.{arith}
 use lib.ListN.{drop}
 use Rattle.lexis.specs.Utf8.{table, width_by}
 use Rattle.lexis.proofs.Sequences.{wide_by, wide_none, by_ascii, by_none, by_two, by_three, by_four, by-E0, by-ED, by-F0, by-F4}
-use borrow.Author.Rules.{rules}
 use Rattle.lexis.proofs.utf8.width.Goals as goal
 
 pub returns-then-b-lt128 : goal.returns-then-b-lt128

@@ -1,6 +1,5 @@
 use Rattle.lexis.proofs.Words.{no_word, a_word}
 use Rattle.lexis.specs.Word.{null, yes, no}
-use borrow.Author.Rules.{rules}
 use native.Mathlib.Omega.{arith}
 use Rattle.lexis.proofs.word.constant_at.Goals as goal
 

@@ -1,7 +1,6 @@
 use Rattle.lexis.specs.RunLaws.{stands_inside}
 use Rattle.lexis.proofs.Runs.{tested}
 use Rattle.lexis.specs.Word.{for', ends_for}
-use borrow.Author.Rules.{rules}
 use borrow.Author.Tests.{not-true, not-false}
 use mathlib.Core.Path.{sym, ◌∙◌}
 use native.Mathlib.Omega.{arith}

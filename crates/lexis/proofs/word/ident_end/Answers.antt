@@ -1,13 +1,10 @@
 -- The loop keeps the end of the run of identifier characters.
-use Prim.Native.Nat.{◌≤◌, ◌+◌, ◌-◌}
 use Rattle.lexis.specs.RunLaws.{inside, run_on, run_stop, run_end}
 use Rattle.lexis.proofs.Runs.{tested, small_rest}
-use Rattle.lexis.specs.Bytes.{byte_at, is_within, is_start, is_rest, run_to}
+use Rattle.lexis.specs.Bytes.{byte_at, is_within, is_start, is_rest}
 use borrow.Author.Tests.{not-true, not-false}
-use lib.ListN.{length}
-use mathlib.Core.Path.{◌≡◌, refl, sym, ◌∙◌}
+use mathlib.Core.Path.{refl, sym, ◌∙◌}
 use native.Mathlib.Omega.{arith}
-use borrow.Author.Rules.{rules}
 use Rattle.lexis.proofs.word.ident_end.Goals as goal
 
 pub returns-then-not-is_start : goal.returns-then-not-is_start

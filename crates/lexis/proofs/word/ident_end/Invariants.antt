@@ -1,12 +1,7 @@
 use Prim.Native.Nat.{◌≤◌, ◌+◌, ◌-◌}
-use Rattle.lexis.specs.RunLaws.{inside, run_on, run_stop, run_end}
-use Rattle.lexis.proofs.Runs.{tested, small_rest}
-use Rattle.lexis.specs.Bytes.{byte_at, is_within, is_start, is_rest, run_to}
-use borrow.Author.Tests.{not-true, not-false}
+use Rattle.lexis.specs.Bytes.{is_rest, run_to}
 use lib.ListN.{length}
-use mathlib.Core.Path.{◌≡◌, refl, sym, ◌∙◌}
-use native.Mathlib.Omega.{arith}
-use borrow.Author.Rules.{rules}
+use mathlib.Core.Path.{◌≡◌}
 use Rattle.lexis.proofs.word.ident_end.Given as goal
 
 abbrev pub invariant-loop-i : goal.invariant-loop-i

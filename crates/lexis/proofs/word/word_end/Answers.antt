@@ -2,7 +2,6 @@ use Rattle.lexis.specs.RunLaws.{stands_inside}
 use Rattle.lexis.proofs.Runs.{tested}
 use Rattle.lexis.proofs.Words.{word_off, word_on}
 use Rattle.lexis.specs.Bytes.{is_rest}
-use borrow.Author.Rules.{rules}
 use borrow.Author.Tests.{not-true, not-false}
 use mathlib.Core.Path.{sym, ◌∙◌}
 use native.Mathlib.Omega.{arith}

@@ -1,7 +1,6 @@
 -- `attribute` meets its contract.
 use native.Mathlib.Omega.{arith}
 use Rattle.reader.proofs.Names.{dot_inside, attribute_gap, attribute_no, attribute_closing, attribute_ok}
-use borrow.Author.Rules.{rules}
 use Rattle.reader.proofs.bare.attribute.Goals as goal
 
 pub overflow_add-p : goal.overflow_add-p

@@ -2,7 +2,6 @@
 use mathlib.Core.Path.{sym, ◌∙◌}
 use native.Mathlib.Omega.{arith}
 use Rattle.reader.proofs.Arrays.{beyond_gap, beyond_comma, beyond_last, beyond_else, beyond_inside}
-use borrow.Author.Rules.{rules}
 use Rattle.reader.proofs.bare.beyond.Goals as goal
 
 pub returns-then-c-ne0 : goal.returns-then-c-ne0

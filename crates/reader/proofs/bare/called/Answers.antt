@@ -1,6 +1,5 @@
 -- `called` meets its contract.
 use Rattle.reader.proofs.Names.{called_no, called_closing, called_ok}
-use borrow.Author.Rules.{rules}
 use Rattle.reader.proofs.bare.called.Goals as goal
 
 pub returns-then-e-p : goal.returns-then-e-p

@@ -1,6 +1,5 @@
 -- `tilde` meets its contract.
 use mathlib.Core.Path.{sym, ◌∙◌}
-use borrow.Author.Rules.{rules}
 use Rattle.reader.proofs.bare.tilde.Goals as goal
 
 pub returns-then-one_at : goal.returns-then-one_at

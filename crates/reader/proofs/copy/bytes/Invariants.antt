@@ -1,10 +1,7 @@
-use Prim.Native.Nat.{ℕ, ◌-◌, ◌≤◌}
-use mathlib.Core.Path.{◌≡◌, refl, ap, ◌∙◌}
-use native.Mathlib.Omega.{arith}
-use borrow.Author.Rules.{rules}
-use lib.ListN.{length, length-set}
+use Prim.Native.Nat.{◌-◌, ◌≤◌}
+use mathlib.Core.Path.{◌≡◌}
+use lib.ListN.{length}
 use Rattle.reader.specs.Buffer.{copied}
-use Rattle.reader.proofs.Copies.{stored}
 use Rattle.reader.proofs.copy.bytes.Given as goal
 
 -- so far i are copied

@@ -1,5 +1,4 @@
 use borrow.Author.Tests.{not-true, not-false}
-use borrow.Author.Rules.{rules}
 use mathlib.Core.Path.{sym, ◌∙◌}
 use Rattle.reader.proofs.Signs.{bared_not, bare_many, bare_none, bare_constant, bare_yes}
 use Rattle.reader.proofs.items.bare.Goals as goal

@@ -1,5 +1,4 @@
 use mathlib.Core.Path.{sym, ◌∙◌}
-use borrow.Author.Rules.{rules}
 use Rattle.reader.proofs.Signs.{behind_refused, behind_brace, behind_none, behind_cut, behind_space}
 use Rattle.reader.proofs.items.behind.Goals as goal
 

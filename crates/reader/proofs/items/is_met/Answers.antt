@@ -1,5 +1,4 @@
 use borrow.Author.Tests.{not-true, not-false}
-use borrow.Author.Rules.{rules}
 use Rattle.reader.proofs.Signs.{not_met, met_here}
 use Rattle.reader.proofs.items.is_met.Goals as goal
 

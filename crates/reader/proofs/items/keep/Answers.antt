@@ -1,7 +1,6 @@
 use mathlib.Core.Path.{sym, ◌∙◌}
 use borrow.Author.Tests.{not-true, not-false}
 use Rattle.reader.proofs.Keepings.{keep_none, keep_one}
-use borrow.Author.Rules.{rules}
 use Rattle.reader.proofs.items.keep.Goals as goal
 
 pub returns-then-end-q : goal.returns-then-end-q

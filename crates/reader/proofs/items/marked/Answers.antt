@@ -1,4 +1,3 @@
-use borrow.Author.Rules.{rules}
 use Rattle.reader.proofs.items.marked.Goals as goal
 
 pub word_to-requires : goal.word_to-requires

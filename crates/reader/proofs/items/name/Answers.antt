@@ -3,7 +3,6 @@ use Prim.Native.Nat.{ℕ}
 use borrow.Author.Tests.{eq-eqb, ne_eqb}
 use Rattle.grammar.specs.Table.{record_of}
 use Rattle.reader.specs.Buffer.{put_at}
-use borrow.Author.Rules.{rules}
 use Rattle.reader.proofs.items.name.Goals as goal
 
 pub returns-then-kind-eq-VARIABLE : goal.returns-then-kind-eq-VARIABLE

@@ -2,7 +2,6 @@ use mathlib.Core.Path.{sym, ◌∙◌}
 use mathlib.Core.List.{[], ◌∷◌}
 use native.Mathlib.Omega.{arith}
 use Rattle.lexis.specs.RunLaws.{stands_inside}
-use borrow.Author.Rules.{rules}
 use Rattle.reader.proofs.Signs.{signed_gap, signed_met, signed_equals, signed_colon, signed_none}
 use Rattle.reader.proofs.items.sign_at.Goals as goal
 

@@ -1,7 +1,6 @@
 use native.Mathlib.Omega.{arith}
-use mathlib.Core.Path.{◌≡◌, refl, sym, ap, ◌∙◌}
+use mathlib.Core.Path.{sym, ◌∙◌}
 use Rattle.reader.proofs.Nodes.{has_of_inside, has_of_outside}
-use borrow.Author.Rules.{rules}
 use Rattle.reader.proofs.node.has_text.Goals as goal
 
 pub returns-then-i-nodes : goal.returns-then-i-nodes

@@ -1,6 +1,5 @@
-use mathlib.Core.Path.{◌≡◌, refl, sym, ap, ◌∙◌}
+use mathlib.Core.Path.{sym}
 use Rattle.reader.proofs.Nodes.{has_none, has_source, has_words, has_not}
-use borrow.Author.Rules.{rules}
 use Rattle.reader.proofs.node.names_text.Goals as goal
 
 pub returns-then-not-is_text : goal.returns-then-not-is_text

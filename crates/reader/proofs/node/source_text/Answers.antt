@@ -1,7 +1,6 @@
 use mathlib.Core.List.{[]}
-use mathlib.Core.Path.{◌≡◌, refl, sym, ap, ◌∙◌}
+use mathlib.Core.Path.{sym, ◌∙◌}
 use Rattle.reader.proofs.Nodes.{source_none, source_any}
-use borrow.Author.Rules.{rules}
 use Rattle.reader.proofs.node.source_text.Goals as goal
 
 pub returns-then-flag-ne0 : goal.returns-then-flag-ne0

@@ -1,6 +1,5 @@
-use mathlib.Core.Path.{◌≡◌, refl, sym, ap, ◌∙◌}
+use mathlib.Core.Path.{sym, ◌∙◌}
 use Rattle.reader.proofs.Nodes.{textless, of_source, of_text, of_none, within_part, beyond_part}
-use borrow.Author.Rules.{rules}
 use Rattle.reader.proofs.node.text_in.Goals as goal
 
 pub returns-then-not-is_text : goal.returns-then-not-is_text

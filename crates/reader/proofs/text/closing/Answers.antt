@@ -3,7 +3,6 @@ use mathlib.Core.Path.{sym, ap, ◌∙◌}
 use Rattle.lexis.specs.declared.heredoc.Line.{Line}
 use Rattle.grammar.specs.Moves.{closes_as}
 use Rattle.reader.specs.Text.{step_from}
-use borrow.Author.Rules.{rules}
 use Rattle.reader.proofs.text.closing.Goals as goal
 
 pub returns-in-Text : goal.returns-in-Text

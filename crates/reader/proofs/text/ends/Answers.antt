@@ -1,6 +1,5 @@
 -- `ends` meets its contract.
 use Rattle.reader.proofs.Pieces.{ends_as, ends_line_lem}
-use borrow.Author.Rules.{rules}
 use Rattle.reader.proofs.text.ends.Goals as goal
 
 pub returns-in-Quote : goal.returns-in-Quote

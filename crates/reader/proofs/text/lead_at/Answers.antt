@@ -1,7 +1,6 @@
 -- `lead_at` meets its contract.
 use Rattle.reader.proofs.Leads.{lead_quote, lead_head}
 use mathlib.Core.Path.{sym, ◌∙◌}
-use borrow.Author.Rules.{rules}
 use Rattle.reader.proofs.text.lead_at.Goals as goal
 
 pub returns-then-byte_at-eq34 : goal.returns-then-byte_at-eq34

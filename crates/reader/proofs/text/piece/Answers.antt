@@ -1,7 +1,6 @@
 -- `piece` meets its contract.
 use mathlib.Core.Path.{refl}
 use Rattle.reader.proofs.Pieces.{pieced_yes, pieced_no}
-use borrow.Author.Rules.{rules}
 use Rattle.reader.proofs.text.piece.Goals as goal
 
 pub returns-then-escaped : goal.returns-then-escaped

@@ -1,7 +1,6 @@
 -- `string` meets its contract.
 use native.Mathlib.Omega.{arith}
 use Rattle.reader.proofs.Strings.{quote_inside, run_inside, string_leaf, said_no, said_escaped, said_plain}
-use borrow.Author.Rules.{rules}
 use Rattle.reader.proofs.text.string.Goals as goal
 
 pub overflow_add-from : goal.overflow_add-from

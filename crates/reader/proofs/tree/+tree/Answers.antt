@@ -1,35 +1,31 @@
 -- The answers of each member of the cycle.
-use Prim.Native.Nat.{ℕ, ◌+◌, ◌*◌, ◌-◌, ◌<◌, ◌≤◌}
+use Prim.Native.Nat.{ℕ, ◌+◌}
 use Rattle.grammar.specs.Hcl.{under, pick_at}
 use Rattle.grammar.specs.Moves.{an_expression}
 use Rattle.grammar.specs.PickLaws.{condition_known, part_kind}
 use Rattle.grammar.specs.Programmed.{Programmed, programmed}
-use Rattle.reader.proofs.Answers.{good, kept_same, kept_join, Turning, turning_start, pass}
-use Rattle.reader.proofs.Arrays.{Arraying, array_inside, array_deep, array_gap, arraying_start, array_high, array_closing, array_ok, array_no, array_far, array_else, array_more, array_square, array_as}
+use Rattle.reader.proofs.Answers.{good, kept_same, kept_join, turning_start, pass}
+use Rattle.reader.proofs.Arrays.{array_inside, array_deep, array_gap, arraying_start, array_high, array_closing, array_ok, array_no, array_far, array_else, array_more, array_square, array_as}
 use Rattle.reader.proofs.Entries.{still_indexed, no_key, no_sign, no_space, no_value, item_done}
-use Rattle.reader.proofs.Exprs.{Low, term_none, term_head_no, term_stop, term_no, term_more, term_far, Only, expr_stop, expr_known, expr_no, expr_more, expr_far}
-use Rattle.reader.proofs.Firsts.{first_term, first_none, leaf_closing, first_leaf, grow_low, grow_high, grow_inside, grow_space, grow_no, grow_closing, grow_ok}
+use Rattle.reader.proofs.Exprs.{term_none, term_head_no, term_stop, term_no, term_more, term_far, expr_stop, expr_known, expr_no, expr_more, expr_far}
+use Rattle.reader.proofs.Firsts.{first_term, first_none, leaf_closing, first_leaf, grow_low, grow_inside, grow_space, grow_no, grow_closing, grow_ok}
 use Rattle.reader.proofs.Interps.{tilde_few, tilde_high, interp_two, brace_high, interp_none, interp_deep, interp_gap, interp_no, interp_open, interp_else, interp_ok}
 use Rattle.reader.proofs.Keepings.{word_marks}
 use Rattle.reader.proofs.Laidings.{Aim, laid_ok, laid_room, laid_stop, laid_other, laid_later, laid_on, laid_within, aim_kid, aim_past, aim_low, aim_high, aim_lead, aim_no, aim_yes, aim_far}
-use Rattle.reader.proofs.Laids.{Turn as TurnLaids, turn_start as turn_start_laids}
+use Rattle.reader.proofs.Laids.{turn_start as turn_start_laids}
 use Rattle.reader.proofs.Leads.{lead_none, lead_primary, lead_first, run_template, run_string}
 use Rattle.reader.proofs.Nameds.{named_baring, named_small, named_far, named_low, named_high, named_met, named_space, named_value, named_done}
-use Rattle.reader.proofs.ObjectTurns.{Turn as TurnObjectTurns, stood, close_room, inside_brace, object_deep, object_open_no, object_empty, turn_start as turn_start_objectturns, turn_no, turn_keeping, object_end_no, object_end, turn_more}
-use Rattle.reader.proofs.Parts.{Parting, parting_start, parts_there, parts_gap, parts_cut, parts_else, parts_end, parts_closing, parts_no, parts_far, parts_more, part_dot, part_square, part_none, part_made, part_bare, parts_as, parts_laying}
-use Rattle.reader.proofs.Pieces.{Round, round_start, round_piece, round_piecing, round_asked, round_interp, round_interp_no, round_far, round_ends_no, round_closes, round_closing}
+use Rattle.reader.proofs.ObjectTurns.{stood, close_room, inside_brace, object_deep, object_open_no, object_empty, turn_start as turn_start_objectturns, turn_no, turn_keeping, object_end_no, object_end, turn_more}
+use Rattle.reader.proofs.Parts.{parting_start, parts_there, parts_gap, parts_cut, parts_else, parts_end, parts_closing, parts_no, parts_far, parts_more, part_dot, part_square, part_none, part_made, part_bare, parts_as, parts_laying}
+use Rattle.reader.proofs.Pieces.{round_start, round_piece, round_piecing, round_asked, round_interp, round_interp_no, round_far, round_ends_no, round_closes, round_closing}
 use Rattle.reader.proofs.Quotes.{heredoc_no, heredoc_asked, heredoc_texting, heredoc_said, quoted_asked, quoted_texting, quoted_said}
 use Rattle.reader.proofs.Ranks.{rank_most, rank_part, rank_condition, rank_other}
 use Rattle.reader.proofs.Strings.{quoting}
 use Rattle.reader.proofs.Subs.{prim_term, prim_laid, no_string, no_template, sub_name, sub_condition, sub_part_none, sub_part, expression_bound, sub_expression}
 use Rattle.reader.proofs.Terms.{term_picked, term_firm, term_primary, term_inside, term_deep, term_space, term_under_no, term_under_room, term_under}
 use Rattle.reader.proofs.Withins.{bracketed_round, bracketed_square, within_there, within_high, within_closing, within_deep, within_gap, within_no, within_open, within_else, within_ok}
-use Rattle.reader.specs.Said.{Asked, Kept, Laying, Texting}
 use Rattle.reader.specs.Text.{flag_of}
-use borrow.Author.Rules.{rules}
 use borrow.Author.Tests.{not-true, not-false}
-use lib.ListN.{length}
-use mathlib.Core.List.{[], ◌∷◌}
 use mathlib.Core.Logic.{⊎_elim}
 use mathlib.Core.Option.{some}
 use mathlib.Core.Path.{ap, ◌∙◌, ◌≡◌, refl, subst, sym}
@@ -547,13 +543,13 @@ laid-overflow_add-u t c = omega (arith, c.loop-nodes.invariant.0, c.loop-nodes.i
 
 pub laid-sub-m-requires : goal.laid-sub-m-requires
 laid-sub-m-requires t c = let aim : Aim c.loop-nodes.invariant.2 c.instr-x.ensures c.if-x-ne-KID.at c.if-x-ne-KID.further =
-        elim c.if-x-ne-KID.branch [
-        laid-then-x-ne-KID+else-w-ne0+else-x-ne-REP w ↦ aim_past c.loop-nodes.invariant.2 c.instr-x.ensures w.if-x-ne-REP.false w.walk-w.ensures w.if-w-ne0.false w.at-is w.further-is
-        | laid-else-x-ne-KID w ↦ aim_kid c.loop-nodes.invariant.2 c.instr-x.ensures w.if-x-ne-KID.false w.at-is w.further-is ] in
-    (
-  ⊎_elim (λ a. omega (arith, a, rank_most c.instr-x.result.class, aim_high c.loop-nodes.invariant.2 c.instr-x.ensures aim)) (λ a. omega (arith, a, c.loop-nodes.invariant.2.low, aim_low c.loop-nodes.invariant.2 c.instr-x.ensures aim)) (aim_lead c.loop-nodes.invariant.2 c.instr-x.ensures aim),
-  (omega (arith, c.loop-nodes.invariant.0, c.loop-nodes.invariant.2.low, c.loop-nodes.invariant.2.spent, c.loop-nodes.invariant.3.long, aim_low c.loop-nodes.invariant.2 c.instr-x.ensures aim, aim_high c.loop-nodes.invariant.2 c.instr-x.ensures aim), c.instr-x.ensures.known),
-)
+    elim c.if-x-ne-KID.branch [
+      | laid-then-x-ne-KID+else-w-ne0+else-x-ne-REP w ↦ aim_past c.loop-nodes.invariant.2 c.instr-x.ensures w.if-x-ne-REP.false w.walk-w.ensures w.if-w-ne0.false w.at-is w.further-is
+      | laid-else-x-ne-KID w ↦ aim_kid c.loop-nodes.invariant.2 c.instr-x.ensures w.if-x-ne-KID.false w.at-is w.further-is
+    ] in (
+      ⊎_elim (λ a. omega (arith, a, rank_most c.instr-x.result.class, aim_high c.loop-nodes.invariant.2 c.instr-x.ensures aim)) (λ a. omega (arith, a, c.loop-nodes.invariant.2.low, aim_low c.loop-nodes.invariant.2 c.instr-x.ensures aim)) (aim_lead c.loop-nodes.invariant.2 c.instr-x.ensures aim),
+      (omega (arith, c.loop-nodes.invariant.0, c.loop-nodes.invariant.2.low, c.loop-nodes.invariant.2.spent, c.loop-nodes.invariant.3.long, aim_low c.loop-nodes.invariant.2 c.instr-x.ensures aim, aim_high c.loop-nodes.invariant.2 c.instr-x.ensures aim), c.instr-x.ensures.known),
+    )
 
 pub laid-shape_of-nodes-then-m-ne0 : goal.laid-shape_of-nodes-then-m-ne0
 laid-shape_of-nodes-then-m-ne0 t c = omega (arith, c.sub-m.auto.nodes, c.loop-nodes.invariant.4)
@@ -566,37 +562,42 @@ laid-shape_of-keys-then-m-ne0 t c = omega (arith, c.sub-m.auto.keys, c.loop-node
 
 pub laid-returns-then-m-ne0 : goal.laid-returns-then-m-ne0
 laid-returns-then-m-ne0 t c = let aim : Aim c.loop-nodes.invariant.2 c.instr-x.ensures c.if-x-ne-KID.at c.if-x-ne-KID.further =
-        elim c.if-x-ne-KID.branch [
-        laid-then-x-ne-KID+else-w-ne0+else-x-ne-REP w ↦ aim_past c.loop-nodes.invariant.2 c.instr-x.ensures w.if-x-ne-REP.false w.walk-w.ensures w.if-w-ne0.false w.at-is w.further-is
-        | laid-else-x-ne-KID w ↦ aim_kid c.loop-nodes.invariant.2 c.instr-x.ensures w.if-x-ne-KID.false w.at-is w.further-is ] in
+    elim c.if-x-ne-KID.branch [
+      | laid-then-x-ne-KID+else-w-ne0+else-x-ne-REP w ↦ aim_past c.loop-nodes.invariant.2 c.instr-x.ensures w.if-x-ne-REP.false w.walk-w.ensures w.if-w-ne0.false w.at-is w.further-is
+      | laid-else-x-ne-KID w ↦ aim_kid c.loop-nodes.invariant.2 c.instr-x.ensures w.if-x-ne-KID.false w.at-is w.further-is
+    ] in
     aim_no c.loop-nodes.invariant.2 c.instr-x.ensures aim c.sub-m.ensures c.if-m-ne0.true (kept_join c.loop-nodes.invariant.3 c.sub-m.ensures.said.kept)
 
 pub laid-overflow_add-n : goal.laid-overflow_add-n
 laid-overflow_add-n t c = let aim : Aim c.loop-nodes.invariant.2 c.instr-x.ensures c.if-x-ne-KID.at c.if-x-ne-KID.further =
-        elim c.if-x-ne-KID.branch [
-        laid-then-x-ne-KID+else-w-ne0+else-x-ne-REP w ↦ aim_past c.loop-nodes.invariant.2 c.instr-x.ensures w.if-x-ne-REP.false w.walk-w.ensures w.if-w-ne0.false w.at-is w.further-is
-        | laid-else-x-ne-KID w ↦ aim_kid c.loop-nodes.invariant.2 c.instr-x.ensures w.if-x-ne-KID.false w.at-is w.further-is ] in
+    elim c.if-x-ne-KID.branch [
+      | laid-then-x-ne-KID+else-w-ne0+else-x-ne-REP w ↦ aim_past c.loop-nodes.invariant.2 c.instr-x.ensures w.if-x-ne-REP.false w.walk-w.ensures w.if-w-ne0.false w.at-is w.further-is
+      | laid-else-x-ne-KID w ↦ aim_kid c.loop-nodes.invariant.2 c.instr-x.ensures w.if-x-ne-KID.false w.at-is w.further-is
+    ] in
     omega (arith, c.loop-nodes.invariant.0, c.loop-nodes.invariant.2.low, aim_low c.loop-nodes.invariant.2 c.instr-x.ensures aim, c.sub-m.ensures.said.room, c.sub-m.ensures.said.high)
 
 pub laid-overflow_add-t : goal.laid-overflow_add-t
 laid-overflow_add-t t c = let aim : Aim c.loop-nodes.invariant.2 c.instr-x.ensures c.if-x-ne-KID.at c.if-x-ne-KID.further =
-        elim c.if-x-ne-KID.branch [
-        laid-then-x-ne-KID+else-w-ne0+else-x-ne-REP w ↦ aim_past c.loop-nodes.invariant.2 c.instr-x.ensures w.if-x-ne-REP.false w.walk-w.ensures w.if-w-ne0.false w.at-is w.further-is
-        | laid-else-x-ne-KID w ↦ aim_kid c.loop-nodes.invariant.2 c.instr-x.ensures w.if-x-ne-KID.false w.at-is w.further-is ] in
+    elim c.if-x-ne-KID.branch [
+      | laid-then-x-ne-KID+else-w-ne0+else-x-ne-REP w ↦ aim_past c.loop-nodes.invariant.2 c.instr-x.ensures w.if-x-ne-REP.false w.walk-w.ensures w.if-w-ne0.false w.at-is w.further-is
+      | laid-else-x-ne-KID w ↦ aim_kid c.loop-nodes.invariant.2 c.instr-x.ensures w.if-x-ne-KID.false w.at-is w.further-is
+    ] in
     omega (arith, c.loop-nodes.invariant.0, c.loop-nodes.invariant.2.spent, aim_low c.loop-nodes.invariant.2 c.instr-x.ensures aim, c.sub-m.ensures.said.spent, c.sub-m.ensures.said.high)
 
 pub laid-loop-nodes-smaller : goal.laid-loop-nodes-smaller
 laid-loop-nodes-smaller t c = let aim : Aim c.loop-nodes.invariant.2 c.instr-x.ensures c.if-x-ne-KID.at c.if-x-ne-KID.further =
-        elim c.if-x-ne-KID.branch [
-        laid-then-x-ne-KID+else-w-ne0+else-x-ne-REP w ↦ aim_past c.loop-nodes.invariant.2 c.instr-x.ensures w.if-x-ne-REP.false w.walk-w.ensures w.if-w-ne0.false w.at-is w.further-is
-        | laid-else-x-ne-KID w ↦ aim_kid c.loop-nodes.invariant.2 c.instr-x.ensures w.if-x-ne-KID.false w.at-is w.further-is ] in
+    elim c.if-x-ne-KID.branch [
+      | laid-then-x-ne-KID+else-w-ne0+else-x-ne-REP w ↦ aim_past c.loop-nodes.invariant.2 c.instr-x.ensures w.if-x-ne-REP.false w.walk-w.ensures w.if-w-ne0.false w.at-is w.further-is
+      | laid-else-x-ne-KID w ↦ aim_kid c.loop-nodes.invariant.2 c.instr-x.ensures w.if-x-ne-KID.false w.at-is w.further-is
+    ] in
     omega (arith, aim_far c.loop-nodes.invariant.2 c.instr-x.ensures aim c.sub-m.ensures c.if-m-ne0.false, c.sub-m.ensures.said.high)
 
 pub laid-loop-nodes-preserved : goal.laid-loop-nodes-preserved
 laid-loop-nodes-preserved t c = let aim : Aim c.loop-nodes.invariant.2 c.instr-x.ensures c.if-x-ne-KID.at c.if-x-ne-KID.further =
-        elim c.if-x-ne-KID.branch [
-        laid-then-x-ne-KID+else-w-ne0+else-x-ne-REP w ↦ aim_past c.loop-nodes.invariant.2 c.instr-x.ensures w.if-x-ne-REP.false w.walk-w.ensures w.if-w-ne0.false w.at-is w.further-is
-        | laid-else-x-ne-KID w ↦ aim_kid c.loop-nodes.invariant.2 c.instr-x.ensures w.if-x-ne-KID.false w.at-is w.further-is ] in
+    elim c.if-x-ne-KID.branch [
+      | laid-then-x-ne-KID+else-w-ne0+else-x-ne-REP w ↦ aim_past c.loop-nodes.invariant.2 c.instr-x.ensures w.if-x-ne-REP.false w.walk-w.ensures w.if-w-ne0.false w.at-is w.further-is
+      | laid-else-x-ne-KID w ↦ aim_kid c.loop-nodes.invariant.2 c.instr-x.ensures w.if-x-ne-KID.false w.at-is w.further-is
+    ] in
     (c.loop-nodes.invariant.0, c.loop-nodes.invariant.1, aim_yes c.loop-nodes.invariant.2 c.instr-x.ensures aim c.sub-m.ensures c.if-m-ne0.false, kept_join c.loop-nodes.invariant.3 c.sub-m.ensures.said.kept, (c.sub-m.auto.nodes ∙ c.loop-nodes.invariant.4), (c.sub-m.auto.text ∙ c.loop-nodes.invariant.5))
 
 -- ---- part

@@ -1,39 +1,18 @@
 -- The measures of the cycle: the levels left, then what is left of the source, then a rank for calls at one place; and the loops of its members.
-use Prim.Native.Nat.{ℕ, ◌+◌, ◌*◌, ◌-◌, ◌<◌, ◌≤◌}
-use Rattle.grammar.specs.Hcl.{under, pick_at}
+use Prim.Native.Nat.{◌+◌, ◌*◌, ◌-◌}
+use Rattle.grammar.specs.Hcl.{under}
 use Rattle.grammar.specs.Moves.{an_expression}
-use Rattle.grammar.specs.PickLaws.{condition_known, part_kind}
-use Rattle.grammar.specs.Programmed.{Programmed, programmed}
-use Rattle.reader.proofs.Answers.{good, kept_same, kept_join, Turning, turning_start, pass}
-use Rattle.reader.proofs.Arrays.{Arraying, array_inside, array_deep, array_gap, arraying_start, array_high, array_closing, array_ok, array_no, array_far, array_else, array_more, array_square, array_as}
-use Rattle.reader.proofs.Entries.{still_indexed, no_key, no_sign, no_space, no_value, item_done}
-use Rattle.reader.proofs.Exprs.{Low, term_none, term_head_no, term_stop, term_no, term_more, term_far, Only, expr_stop, expr_known, expr_no, expr_more, expr_far}
-use Rattle.reader.proofs.Firsts.{first_term, first_none, leaf_closing, first_leaf, grow_low, grow_high, grow_inside, grow_space, grow_no, grow_closing, grow_ok}
-use Rattle.reader.proofs.Interps.{tilde_few, tilde_high, interp_two, brace_high, interp_none, interp_deep, interp_gap, interp_no, interp_open, interp_else, interp_ok}
-use Rattle.reader.proofs.Keepings.{word_marks}
-use Rattle.reader.proofs.Laidings.{Aim, laid_ok, laid_room, laid_stop, laid_other, laid_later, laid_on, laid_within, aim_kid, aim_past, aim_low, aim_high, aim_lead, aim_no, aim_yes, aim_far}
-use Rattle.reader.proofs.Laids.{Turn as TurnLaids, turn_start as turn_start_laids}
-use Rattle.reader.proofs.Leads.{lead_none, lead_primary, lead_first, run_template, run_string}
-use Rattle.reader.proofs.Nameds.{named_baring, named_small, named_far, named_low, named_high, named_met, named_space, named_value, named_done}
-use Rattle.reader.proofs.ObjectTurns.{Turn as TurnObjectTurns, stood, close_room, inside_brace, object_deep, object_open_no, object_empty, turn_start as turn_start_objectturns, turn_no, turn_keeping, object_end_no, object_end, turn_more}
-use Rattle.reader.proofs.Parts.{Parting, parting_start, parts_there, parts_gap, parts_cut, parts_else, parts_end, parts_closing, parts_no, parts_far, parts_more, part_dot, part_square, part_none, part_made, part_bare, parts_as, parts_laying}
-use Rattle.reader.proofs.Pieces.{Round, round_start, round_piece, round_piecing, round_asked, round_interp, round_interp_no, round_far, round_ends_no, round_closes, round_closing}
-use Rattle.reader.proofs.Quotes.{heredoc_no, heredoc_asked, heredoc_texting, heredoc_said, quoted_asked, quoted_texting, quoted_said}
-use Rattle.reader.proofs.Ranks.{sub_rank, rank_most, rank_part, rank_condition, rank_other}
-use Rattle.reader.proofs.Strings.{quoting}
-use Rattle.reader.proofs.Subs.{prim_term, prim_laid, no_string, no_template, sub_name, sub_condition, sub_part_none, sub_part, expression_bound, sub_expression}
-use Rattle.reader.proofs.Terms.{term_picked, term_firm, term_primary, term_inside, term_deep, term_space, term_under_no, term_under_room, term_under}
-use Rattle.reader.proofs.Withins.{bracketed_round, bracketed_square, within_there, within_high, within_closing, within_deep, within_gap, within_no, within_open, within_else, within_ok}
+use Rattle.reader.proofs.Answers.{Turning}
+use Rattle.reader.proofs.Arrays.{Arraying}
+use Rattle.reader.proofs.Exprs.{Low, Only}
+use Rattle.reader.proofs.Laids.{Turn as TurnLaids}
+use Rattle.reader.proofs.ObjectTurns.{Turn as TurnObjectTurns}
+use Rattle.reader.proofs.Parts.{Parting}
+use Rattle.reader.proofs.Pieces.{Round}
+use Rattle.reader.proofs.Ranks.{sub_rank}
 use Rattle.reader.specs.Said.{Asked, Kept, Laying, Texting}
-use Rattle.reader.specs.Text.{flag_of}
-use borrow.Author.Rules.{rules}
-use borrow.Author.Tests.{not-true, not-false}
 use lib.ListN.{length}
-use mathlib.Core.List.{[], ◌∷◌}
-use mathlib.Core.Logic.{⊎_elim}
-use mathlib.Core.Option.{some}
-use mathlib.Core.Path.{ap, ◌∙◌, ◌≡◌, refl, subst, sym}
-use native.Mathlib.Omega.{arith}
+use mathlib.Core.Path.{◌≡◌}
 use Rattle.reader.proofs.tree.+tree.Given as goal
 
 abbrev pub decreases-array : goal.decreases-array

@@ -1,5 +1,3 @@
-use borrow.Author.Rules.{rules}
-use native.Mathlib.Omega.{arith}
 use Rattle.reader.proofs.Wholly.{whole_no, whole_ok, whole_space, whole_left}
 use Rattle.reader.proofs.whole.whole.Goals as goal
 
