@@ -12,7 +12,7 @@ use Rattle.lexis.specs.Bytes.{stands}
 use Rattle.engine.specs.Base.{all_of, has}
 use Rattle.engine.specs.Layout.{named}
 use Rattle.grammar.specs.Moves.{Want, an_expression, a_name, an_item, a_part, a_piece, a_condition, Under}
-use Rattle.grammar.specs.Hcl.{hcl, bare, under, pick_at, follow_at}
+use Rattle.grammar.specs.Hcl.{hcl, under, pick_at, follow_at}
 use Rattle.grammar.specs.Published.{want_of, style_of}
 use Rattle.grammar.specs.Said.{kind_of, TermAt, PartAt}
 use Rattle.grammar.specs.KindLaws.{heads, pick_all}

@@ -1,20 +1,20 @@
 -- Calls: their names, one after the other.
-use Prim.Native.Nat.{ℕ, ◌+◌, ◌%◌, ◌≤◌, ◌<◌}
-use mathlib.Core.Path.{◌≡◌, refl, sym, ◌∙◌}
+use Prim.Native.Nat.{ℕ, ◌+◌, ◌%◌}
+use mathlib.Core.Path.{◌≡◌, refl, sym}
 use mathlib.Core.Bool.{Bool, true, false, cond, ◌&&◌}
 use mathlib.Core.List.{List, [], ◌∷◌}
 use native.Mathlib.Omega.{arith}
-use lib.ListN.{length, get_or}
+use lib.ListN.{get_or}
 use lib.Dec.{eqb}
 use Rattle.lexis.specs.Bytes.{Ran, stands}
 use Rattle.lexis.specs.Operator.{mark_to}
-use Rattle.engine.specs.Layout.{move, kid, rep}
+use Rattle.engine.specs.Layout.{move, rep}
 use Rattle.grammar.specs.declared.moves.Went.{Went}
 use Rattle.grammar.specs.Moves.{gap, mark, here, call}
 use Rattle.grammar.specs.Layouts.{Layout, called, opening, call_lay}
 use Rattle.grammar.specs.Said.{Moved}
 use Rattle.checker.specs.Rows.{row_at}
-use Rattle.checker.specs.Lay.{KidBy, Direct}
+use Rattle.checker.specs.Lay.{KidBy}
 use Rattle.checker.specs.Rest.{RestBy}
 use Rattle.checker.specs.Elements.{listed_lay}
 use Rattle.checker.proofs.Atoms.{to_end, to_here, past_here, not_here, to_mark, past_mark, not_mark, not_call, call_same}

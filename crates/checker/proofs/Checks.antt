@@ -1,7 +1,7 @@
 -- The tests before the walk.
-use Prim.Native.Nat.{ℕ, zero, suc, ◌+◌, ◌*◌, ◌-◌, ◌≤◌, ◌<◌}
+use Prim.Native.Nat.{ℕ, ◌*◌, ◌-◌, ◌≤◌, ◌<◌}
 use mathlib.Core.Path.{◌≡◌, refl, sym, ap, subst, ◌∙◌}
-use mathlib.Core.Bool.{Bool, true, false}
+use mathlib.Core.Bool.{Bool, false}
 use mathlib.Core.List.{List, [], append-nil}
 use native.Mathlib.Omega.{arith}
 use lib.ListN.{length}
@@ -14,7 +14,7 @@ use Rattle.grammar.specs.Published.{kinds_of, Holds}
 use Rattle.grammar.specs.DemandLaws.{formed_on}
 use Rattle.checker.specs.Rows.{row_at}
 use Rattle.checker.specs.Leaf.{kinds_by}
-use Rattle.checker.specs.Check.{Root, Rooted, Checks}
+use Rattle.checker.specs.Check.{Rooted, Checks}
 use Rattle.checker.proofs.Tabled.{Full, full_of}
 use Rattle.checker.proofs.Nodes.{is_t, not_t}
 

@@ -1,16 +1,16 @@
 -- Conditionals: a mark and an expression, twice.
-use Prim.Native.Nat.{ℕ, ◌-◌, ◌/◌, ◌%◌, ◌≤◌, ◌<◌}
-use mathlib.Core.Path.{◌≡◌, refl}
-use mathlib.Core.Bool.{Bool, true, false}
+use Prim.Native.Nat.{ℕ, ◌-◌, ◌%◌, ◌≤◌, ◌<◌}
+use mathlib.Core.Path.{◌≡◌}
+use mathlib.Core.Bool.{Bool, false}
 use mathlib.Core.List.{List, [], ◌∷◌}
 use native.Mathlib.Omega.{arith}
 use lib.Dec.{eqb}
 use Rattle.lexis.specs.Bytes.{Ran}
 use Rattle.lexis.specs.Operator.{mark_to}
-use Rattle.engine.specs.Layout.{fin, move, kid}
+use Rattle.engine.specs.Layout.{fin}
 use Rattle.grammar.specs.declared.moves.Went.{Went}
 use Rattle.grammar.specs.Moves.{gap, here}
-use Rattle.grammar.specs.Layouts.{Layout, conditional_lay}
+use Rattle.grammar.specs.Layouts.{conditional_lay}
 use Rattle.grammar.specs.Said.{Moved}
 use Rattle.checker.specs.Rows.{row_at}
 use Rattle.checker.specs.Lay.{KidBy}

@@ -8,32 +8,29 @@ use native.Mathlib.Omega.{arith}
 use lib.ListN.{length, get_or}
 use lib.Dec.{eqb, T}
 use borrow.Author.Tests.{eqb-true, eqb-false}
-use Rattle.lexis.specs.RunLaws.{clash}
 use Rattle.index.specs.Index.{Indexed}
-use Rattle.engine.specs.Base.{Rec, has}
+use Rattle.engine.specs.Base.{has}
 use Rattle.grammar.specs.declared.shape.Child.{Child}
 use Rattle.grammar.specs.declared.moves.Went.{Went}
 use Rattle.grammar.specs.Kinds.{tight_of}
-use Rattle.grammar.specs.Moves.{Want, Move, gap, line, here, place, walk}
-use Rattle.grammar.specs.Layouts.{Class, key, value, right, layout_of, operator_lay}
+use Rattle.grammar.specs.Moves.{Move, gap, line, place, walk}
+use Rattle.grammar.specs.Layouts.{Class, right, operator_lay}
 use Rattle.grammar.specs.Hcl.{under, downs, bounds, styles}
 use Rattle.grammar.specs.Said.{went, Moved}
 use Rattle.grammar.specs.Published.{want_of, kinds_of, More}
-use Rattle.grammar.specs.Code.{atoms, move_of, program, begins, operation, argument, class, otherwise}
-use Rattle.checker.specs.declared.pass.Passed.{Passed}
+use Rattle.grammar.specs.Code.{atoms, move_of, operation, argument, class, otherwise}
 use Rattle.checker.specs.Rows.{row_at, rec_at}
-use Rattle.checker.specs.Family.{Chain}
 use Rattle.checker.specs.Program.{own, code_in, move_in, class_in, Codes, begin_in, laid_out}
-use Rattle.checker.specs.Leaf.{ChildAt, GoneAt}
+use Rattle.checker.specs.Leaf.{ChildAt}
 use Rattle.checker.specs.LeafMore.{Goes, SignBy}
 use Rattle.checker.specs.declared.node.Left.{Left}
 use Rattle.checker.specs.Node.{LeftTo}
 use Rattle.checker.specs.Child.{kidded, ChildBy}
-use Rattle.checker.specs.Lay.{SuitsAt, KidBy, Direct, no_pass, PassedBy, EndsAt, LaidBy, Operates, OperatorBy}
+use Rattle.checker.specs.Lay.{KidBy, Direct, PassedBy, EndsAt, LaidBy, Operates, OperatorBy}
 use Rattle.checker.proofs.Programs.{child_key, child_value}
-use Rattle.checker.proofs.Goings.{here_on, here_no, line_on, line_no, gone_equals, gone_colon}
+use Rattle.checker.proofs.Goings.{here_on, here_no, line_on, line_no}
 use Rattle.checker.proofs.Passes.{met_other, pass_no, pass_yes, kinds_in}
-use Rattle.checker.proofs.Lays.{no_keys, Known, known, Turn, turn_start, turn_on, turn_other, lay_stop, lay_kid, lay_kid_no, lay_fin, chain_le, next_of}
+use Rattle.checker.proofs.Lays.{no_keys, Known, known, Turn, turn_start, turn_on, turn_other, lay_stop, lay_kid, lay_kid_no, lay_fin, chain_le}
 
 -- ---- a child
 

@@ -1,22 +1,22 @@
 -- Elements with commas between them, up to a closer: one after the other.
-use Prim.Native.Nat.{ℕ, ◌+◌, ◌-◌, ◌*◌, ◌/◌, ◌%◌, ◌≤◌, ◌<◌}
-use mathlib.Core.Path.{◌≡◌, refl, sym, ap, subst, ◌∙◌}
+use Prim.Native.Nat.{ℕ, ◌+◌, ◌-◌, ◌*◌, ◌/◌, ◌≤◌}
+use mathlib.Core.Path.{◌≡◌, sym, subst, ◌∙◌}
 use mathlib.Core.Bool.{Bool, true, false}
 use mathlib.Core.List.{List, [], ◌∷◌}
 use native.Mathlib.Omega.{arith}
-use lib.ListN.{length, get_or}
+use lib.ListN.{get_or}
 use lib.Dec.{eqb}
 use borrow.Author.Tests.{eq-eqb, ne_eqb}
 use Rattle.lexis.specs.Bytes.{byte_at, Ran}
 use Rattle.lexis.specs.Operator.{mark_to}
-use Rattle.engine.specs.Layout.{fin, move, kid, fork, rep}
+use Rattle.engine.specs.Layout.{fin, move, rep}
 use Rattle.grammar.specs.declared.moves.Went.{Went}
 use Rattle.grammar.specs.Moves.{to, skip}
 use Rattle.grammar.specs.Layouts.{inside, Layout, past, between, closing}
 use Rattle.grammar.specs.Said.{Moved}
 use Rattle.checker.specs.Rows.{row_at}
-use Rattle.checker.specs.Lay.{KidBy, Direct, EndsAt}
-use Rattle.checker.specs.Rest.{RestBy, TailBy}
+use Rattle.checker.specs.Lay.{KidBy, EndsAt}
+use Rattle.checker.specs.Rest.{RestBy}
 use Rattle.checker.specs.Elements.{Closer, After, LastBy, tail_of, tail_lay, elements_lay, listed_lay}
 use Rattle.checker.proofs.Atoms.{Not, to_end, to_any, past_any, not_any, to_gap, past_gap, to_mark, not_mark, to_byte, past_byte, not_byte, to_unless, not_unless, to_bare, past_bare, to_comma, not_comma, byte_is, byte_not}
 use Rattle.checker.proofs.Rests.{att, rest_stop, rest_move, rest_fork, rest_other, rest_again, rest_done, rest_fin}

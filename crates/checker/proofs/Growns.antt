@@ -1,21 +1,20 @@
 -- The rule at a row that grows from its left operand.
-use Prim.Native.Nat.{ℕ, zero, suc, ◌+◌, ◌*◌, ◌/◌, ◌%◌, ◌≤◌, ◌<◌}
+use Prim.Native.Nat.{ℕ, ◌/◌, ◌%◌, ◌≤◌, ◌<◌}
 use mathlib.Core.Path.{◌≡◌, refl, sym, ap, subst, ◌∙◌}
-use mathlib.Core.Bool.{Bool, true, false, cond, not, ◌&&◌, ◌||◌}
-use mathlib.Core.Option.{Option, none, some}
-use mathlib.Core.Logic.{◌⊎◌, inl, inr}
+use mathlib.Core.Bool.{Bool, true, false, cond, not, ◌&&◌}
+use mathlib.Core.Option.{none, some}
 use mathlib.Core.List.{List, [], ◌∷◌, map}
 use native.Mathlib.Omega.{arith}
 use lib.ListN.{length, get_or, set, length-set}
 use lib.Seq.{get_or-set_same, get_or-set_other}
-use lib.Dec.{eqb, eqb→eq, leb, leb→le, T}
-use borrow.Author.Tests.{eqb-true, eqb-false, eq-eqb, ne_eqb, lt-leb}
+use lib.Dec.{eqb, leb, leb→le, T}
+use borrow.Author.Tests.{eqb-true, eq-eqb, lt-leb}
 use Rattle.lexis.specs.RunLaws.{clash}
 use Rattle.engine.specs.Base.{Rec, has, all_of}
-use Rattle.engine.specs.BaseLaws.{has_all, some_is, and_t}
+use Rattle.engine.specs.BaseLaws.{has_all, and_t}
 use Rattle.engine.specs.Layout.{named}
 use Rattle.engine.specs.Rule.{Runs, Firm, Local, first, later}
-use Rattle.engine.specs.Handed.{Tests, tnil, tcons}
+use Rattle.engine.specs.Handed.{Tests, tcons}
 use Rattle.grammar.specs.Kinds.{tight_of, hold_of}
 use Rattle.grammar.specs.Moves.{Want, an_expression, Under, round}
 use Rattle.grammar.specs.Layouts.{layout_of}
@@ -27,13 +26,13 @@ use Rattle.checker.specs.Rows.{row_at, rec_at}
 use Rattle.checker.specs.Family.{Chain}
 use Rattle.checker.specs.Program.{laid_out, pieceless, all_pieceless}
 use Rattle.checker.specs.Leaf.{kinds_by, is_grown}
-use Rattle.checker.specs.Lay.{coded, depths_at, Both, Over, Laying, Children, LaidBy}
+use Rattle.checker.specs.Lay.{coded, depths_at, Both, Over, Children, LaidBy}
 use Rattle.checker.specs.Texts.{Sanes, Spelts}
-use Rattle.checker.specs.Node.{Noding, Worded, RuleBy, LeftAt}
+use Rattle.checker.specs.Node.{RuleBy, LeftAt}
 use Rattle.checker.proofs.Callings.{follow_grown, pick_grown}
 use Rattle.checker.proofs.Overs.{both_apart, both_joined}
-use Rattle.checker.proofs.Lays.{Next, next_of, none_left, chain_le}
-use Rattle.checker.proofs.Heads.{NoNine, over_plain, nine_spelts, sanes_filled, rule_no, grown_named}
+use Rattle.checker.proofs.Lays.{Next, next_of, none_left}
+use Rattle.checker.proofs.Heads.{over_plain, nine_spelts, sanes_filled, rule_no, grown_named}
 
 -- ---- the kinds that grow
 

@@ -1,33 +1,33 @@
 -- The rule at a row that does not grow from an operand, and over which no text goes.
-use Prim.Native.Nat.{ℕ, zero, suc, ◌+◌, ◌*◌, ◌/◌, ◌%◌, ◌≤◌, ◌<◌}
+use Prim.Native.Nat.{ℕ, ◌/◌, ◌%◌, ◌<◌}
 use mathlib.Core.Path.{◌≡◌, refl, sym, ap, subst, ◌∙◌}
-use mathlib.Core.Bool.{Bool, true, false, cond, not, ◌&&◌, ◌||◌}
-use mathlib.Core.Option.{Option, none, some}
+use mathlib.Core.Bool.{Bool, true, false, cond, ◌||◌}
+use mathlib.Core.Option.{none, some}
 use mathlib.Core.List.{List, [], ◌∷◌, map}
 use native.Mathlib.Omega.{arith}
 use lib.ListN.{length, get_or}
-use lib.Dec.{eqb, leb, T}
-use borrow.Author.Tests.{eqb-true, eqb-false, eq-eqb, ne_eqb}
+use lib.Dec.{eqb, T}
+use borrow.Author.Tests.{eqb-true, ne_eqb}
 use Rattle.lexis.specs.String.{Mode}
 use Rattle.lexis.specs.RunLaws.{clash}
 use Rattle.engine.specs.Base.{Rec, has, all_of}
-use Rattle.engine.specs.BaseLaws.{and_t, has_all, some_is, t_or}
-use Rattle.engine.specs.Layout.{Lay, bad, fin, move, kid, fork, rep, named}
-use Rattle.engine.specs.Rule.{Runs, rfin, rmove, rkid, ryes, rno, rrep, rend, Firm, Local, first, later}
+use Rattle.engine.specs.BaseLaws.{and_t, has_all, some_is}
+use Rattle.engine.specs.Layout.{named}
+use Rattle.engine.specs.Rule.{Runs, rfin, rmove, rkid, ryes, rno, rrep, rend, Local, first, later}
 use Rattle.engine.specs.Handed.{Tests}
-use Rattle.grammar.specs.Moves.{Want, an_expression, a_name, an_item, a_part, a_piece, a_condition, Under, Move, round, same}
+use Rattle.grammar.specs.Moves.{Want, an_expression, a_name, an_item, a_part, a_piece, a_condition, Under, round, same}
 use Rattle.grammar.specs.Layouts.{Class, inside, single, key, value, test, branch, term, right, entry, called, portion, piecewise, filter, Layout, layout_of, layouts}
-use Rattle.grammar.specs.Hcl.{hcl, under, downs, fits, styles, pick_at, bare}
+use Rattle.grammar.specs.Hcl.{hcl, under, downs, fits, styles, pick_at}
 use Rattle.grammar.specs.KindLaws.{heads, pick_all}
 use Rattle.grammar.specs.Published.{Depth, depth_of, wanted, kinds_of, want_of, style_of, Suits, Laid}
 use Rattle.checker.specs.Rows.{row_at, rec_at}
 use Rattle.checker.specs.Family.{Chain}
 use Rattle.checker.specs.Program.{laid_out, is_piece, pieceless, all_pieceless, kidless}
 use Rattle.checker.specs.Leaf.{is_grown, read_as, FirstAt}
-use Rattle.checker.specs.Lay.{coded, depths_at, Both, Filled, Over, Children, LaidBy}
-use Rattle.checker.specs.Texts.{Sane, Sanes, Spelts}
+use Rattle.checker.specs.Lay.{coded, Both, Filled, Over, Children, LaidBy}
+use Rattle.checker.specs.Texts.{Sanes, Spelts}
 use Rattle.checker.specs.Node.{NoText, Worded, RuleBy}
-use Rattle.checker.proofs.Callings.{follow_grown, pick_grown}
+use Rattle.checker.proofs.Callings.{follow_grown}
 use Rattle.checker.proofs.Overs.{both_apart, both_joined}
 
 -- ---- children that are no pieces, and no children

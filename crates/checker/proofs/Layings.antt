@@ -5,7 +5,7 @@ use mathlib.Core.Bool.{Bool}
 use mathlib.Core.List.{List, [], ◌∷◌}
 use lib.Dec.{eqb}
 use Rattle.engine.specs.Layout.{move}
-use Rattle.grammar.specs.Layouts.{Layout, layouts, layout_of, interpolation_lay, traversal_lay, conditional_lay, call_lay, list_for_lay, filters_lay, opening}
+use Rattle.grammar.specs.Layouts.{layouts, layout_of, interpolation_lay, traversal_lay, conditional_lay, call_lay, list_for_lay, filters_lay, opening}
 use Rattle.checker.specs.Rows.{row_at}
 use Rattle.checker.specs.Lay.{LaidBy}
 use Rattle.checker.specs.Rest.{RestBy, enclosed_lay}

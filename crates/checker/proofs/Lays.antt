@@ -1,12 +1,12 @@
 -- A layout under way over a row's children: what holds whenever the loop of `lay` begins a turn, and what each instruction does.
-use Prim.Native.Nat.{ℕ, zero, suc, ◌+◌, ◌*◌, ◌-◌, ◌≤◌, ◌<◌}
+use Prim.Native.Nat.{ℕ, ◌+◌, ◌≤◌, ◌<◌}
 use mathlib.Core.Path.{◌≡◌, refl, sym, ap, subst, ◌∙◌}
-use mathlib.Core.Bool.{Bool, true, false, cond, not, ◌&&◌, ◌||◌}
+use mathlib.Core.Bool.{Bool, true, false, ◌&&◌}
 use mathlib.Core.Logic.{◌⊎◌, inl, inr}
 use mathlib.Core.Option.{Option, none, some}
 use mathlib.Core.List.{List, [], ◌∷◌, ◌++◌, map, append_assoc, append-nil}
 use native.Mathlib.Omega.{arith}
-use lib.ListN.{length, get_or, set, length-set}
+use lib.ListN.{length, get_or, set}
 use lib.Seq.{get_or-set_same, get_or-set_other}
 use lib.Dec.{eqb, eqb→eq, ltb, ltb→lt, T}
 use borrow.Author.Tests.{eqb-true, eq-eqb, ne_eqb}
@@ -14,10 +14,10 @@ use Rattle.lexis.specs.RunLaws.{clash}
 use Rattle.index.specs.Index.{Indexed}
 use Rattle.index.specs.Index as index
 use Rattle.index.specs.IndexLaws.{indexed_none}
-use Rattle.engine.specs.Base.{Rec, has, all_of}
+use Rattle.engine.specs.Base.{Rec, has}
 use Rattle.engine.specs.BaseLaws.{and_t, or_t, has_all, some_is}
-use Rattle.engine.specs.Layout.{Lay, bad, fin, move, kid, fork, rep}
-use Rattle.engine.specs.Rule.{Runs, rfin, rmove, rkid, ryes, rno, rrep, rend}
+use Rattle.engine.specs.Layout.{bad, fin, move, kid, fork, rep}
+use Rattle.engine.specs.Rule.{rfin, rmove, rkid, ryes, rno, rrep, rend}
 use Rattle.grammar.specs.declared.shape.Instr.{Instr}
 use Rattle.grammar.specs.declared.moves.Went.{Went}
 use Rattle.grammar.specs.Moves.{Want, Under, Move, place, walk, keys_of, lones, same}

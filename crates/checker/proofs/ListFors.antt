@@ -1,20 +1,19 @@
 -- List fors and their conditions: their layouts, part by part.
-use Prim.Native.Nat.{ℕ, ◌+◌, ◌-◌, ◌*◌, ◌/◌, ◌%◌, ◌≤◌, ◌<◌}
-use mathlib.Core.Path.{◌≡◌, refl, sym, ◌∙◌}
+use Prim.Native.Nat.{ℕ, ◌-◌, ◌*◌, ◌/◌, ◌≤◌}
+use mathlib.Core.Path.{◌≡◌}
 use mathlib.Core.Bool.{Bool, true, false}
 use mathlib.Core.List.{List, [], ◌∷◌}
-use native.Mathlib.Omega.{arith}
-use lib.ListN.{length, get_or}
+use lib.ListN.{get_or}
 use Rattle.lexis.specs.Bytes.{Ran}
 use Rattle.lexis.specs.Word.{word_to, for_to, in', if'}
 use Rattle.lexis.specs.Operator.{mark_to}
-use Rattle.engine.specs.Layout.{fin, move, kid, fork}
+use Rattle.engine.specs.Layout.{fin, move, fork}
 use Rattle.grammar.specs.declared.moves.Went.{Went}
-use Rattle.grammar.specs.Layouts.{Layout, past, filter_lay, filters_lay}
+use Rattle.grammar.specs.Layouts.{past, filter_lay, filters_lay}
 use Rattle.grammar.specs.Said.{Moved}
 use Rattle.checker.specs.Rows.{row_at}
 use Rattle.checker.specs.Lay.{KidBy, Direct, EndsAt}
-use Rattle.checker.specs.Rest.{RestBy, StepBy, TailBy, inside_lay}
+use Rattle.checker.specs.Rest.{RestBy, StepBy, inside_lay}
 use Rattle.checker.specs.ListFor.{ShutBy, named_lay, intro_lay, collection_lay, value_lay, ranged_lay}
 use Rattle.checker.proofs.Atoms.{to_end, to_any, past_any, not_any, to_gap, past_gap, to_mark, not_mark, to_for, not_for, to_word, not_word, to_ahead, not_ahead}
 use Rattle.checker.proofs.Rests.{rest_stop, rest_move, rest_fork, rest_other, rest_fin, step_stop, step_move}

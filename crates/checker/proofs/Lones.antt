@@ -1,27 +1,22 @@
 -- Whether a key stands alone, with what was found of comments behind earlier keys.
-use Prim.Native.Nat.{ℕ, zero, suc, ◌+◌, ◌-◌, ◌*◌, ◌≤◌, ◌<◌}
+use Prim.Native.Nat.{ℕ, zero, suc, ◌+◌, ◌-◌, ◌≤◌, ◌<◌}
 use mathlib.Core.Path.{◌≡◌, refl, sym, ap, subst, ◌∙◌}
 use mathlib.Core.List.{List, [], ◌∷◌}
 use mathlib.Core.Bool.{Bool, true, false, cond, not, ◌&&◌, ◌||◌, or-false}
-use mathlib.Core.Logic.{◌⊎◌, inl, inr}
+use mathlib.Core.Logic.{inl, inr}
 use native.Mathlib.Omega.{arith}
 use lib.ListN.{length, drop}
 use lib.Dec.{eqb, leb}
 use lib.Seq.{drop-drop}
 use borrow.Author.Tests.{eqb-true, eqb-false, eq-eqb, ne_eqb, leb-true, leb-false}
 use Rattle.lexis.specs.declared.trivia.Gap.{Gap}
-use Rattle.lexis.specs.Bytes.{byte_at, is_space, begins, stands, up_to, Byte, Ran}
-use Rattle.lexis.specs.Trivia.{Item, none, wide, closes, block, item, ends_at, open_at, placed, gap_to}
+use Rattle.lexis.specs.Bytes.{byte_at, is_space, stands, up_to, Byte, Ran}
+use Rattle.lexis.specs.Trivia.{none, closes, block, item, ends_at, open_at, placed, gap_to}
 use Rattle.lexis.specs.Operator.{is_mark, equals_to}
-use Rattle.lexis.specs.RunLaws.{clash, front, inside, and_left, and_right, stands_cons, stands_one, stands_two, stands_inside, reach, reach_on, reach_stop, reach_end}
-use Rattle.lexis.specs.Keys.{key_to}
+use Rattle.lexis.specs.RunLaws.{clash, front, inside, and_left, and_right, stands_one, stands_two, stands_inside, reach, reach_on, reach_stop, reach_end}
 use Rattle.lexis.proofs.Trivias.{block_found, block_endless, item_space, item_block, gap_stop, gap_on}
-use Rattle.grammar.specs.Moves.{lone}
-use Rattle.grammar.specs.Layouts.{Class, key, value, term, entry}
-use Rattle.grammar.specs.Code.{class_of}
 use Rattle.checker.specs.declared.lone.Memo.{Memo}
 use Rattle.checker.specs.declared.lone.Lone.{Lone}
-use Rattle.checker.specs.Program.{class_in, is_entry}
 use Rattle.checker.specs.Lone.{sign_at, signed, Known, SpacesTo, CloserAt, Covered, OneOf, Behind}
 
 -- ---- two bytes, one by one

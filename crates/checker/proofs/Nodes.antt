@@ -1,12 +1,11 @@
 -- The rule at a row, over the children that its counts give.
-use Prim.Native.Nat.{ℕ, zero, suc, ◌+◌, ◌*◌, ◌/◌, ◌%◌, ◌≤◌, ◌<◌}
+use Prim.Native.Nat.{ℕ, ◌%◌, ◌≤◌, ◌<◌}
 use mathlib.Core.Path.{◌≡◌, refl, sym, ap, subst, ◌∙◌}
 use mathlib.Core.Bool.{Bool, true, false}
-use mathlib.Core.Logic.{◌⊎◌, inl, inr}
 use mathlib.Core.List.{List, [], ◌∷◌, map}
 use native.Mathlib.Omega.{arith}
-use lib.ListN.{length, get_or}
-use lib.Dec.{eqb, leb, T}
+use lib.ListN.{get_or}
+use lib.Dec.{eqb, T}
 use borrow.Author.Tests.{eqb-true, eqb-false, eq-eqb, ne_eqb}
 use Rattle.lexis.specs.declared.heredoc.Opener.{Opener}
 use Rattle.lexis.specs.Heredoc.{opener_at, Opened}
@@ -21,15 +20,15 @@ use Rattle.grammar.specs.Alone.{NextAt}
 use Rattle.grammar.specs.Hcl.{under, follow_at}
 use Rattle.grammar.specs.Said.{kind_of, Follow}
 use Rattle.grammar.specs.Published.{Depth, Laid, rule_as, Rule}
-use Rattle.grammar.specs.RuleTable.{kids_same, kids_le}
+use Rattle.grammar.specs.RuleTable.{kids_same}
 use Rattle.checker.specs.declared.node.Left.{Left}
 use Rattle.checker.specs.Rows.{row_at, rows, rec_at}
-use Rattle.checker.specs.Family.{Chain, Linked, Family}
+use Rattle.checker.specs.Family.{Linked, Family}
 use Rattle.checker.specs.Leaf.{kinds_by, FirstAt}
 use Rattle.checker.specs.Lay.{coded, depths_at, LaidBy}
-use Rattle.checker.specs.Texts.{Sanes, Spelts, TextBy}
+use Rattle.checker.specs.Texts.{Sanes, TextBy}
 use Rattle.checker.specs.declared.single.Look.{Look}
-use Rattle.checker.specs.Node.{Noding, Worded, RuleBy, SingleBy, LeftAt, no_left, LeftTo, NodeBy}
+use Rattle.checker.specs.Node.{RuleBy, SingleBy, LeftAt, no_left, LeftTo, NodeBy}
 use Rattle.checker.proofs.Families.{family_none}
 
 -- ---- a left operand

@@ -1,16 +1,14 @@
 -- Objects, gone through with no program: the turns that the program makes, one by one.
-use Prim.Native.Nat.{ℕ, zero, suc, ◌+◌, ◌≤◌, ◌<◌}
+use Prim.Native.Nat.{ℕ, ◌≤◌, ◌<◌}
 use mathlib.Core.Path.{◌≡◌, refl, sym, ap, subst, ◌∙◌}
 use mathlib.Core.Bool.{Bool, true, false}
 use mathlib.Core.Logic.{◌⊎◌, inl, inr}
 use mathlib.Core.Option.{none, some}
 use mathlib.Core.List.{List, [], ◌∷◌}
 use native.Mathlib.Omega.{arith}
-use lib.ListN.{length, get_or}
-use lib.Dec.{T}
+use lib.ListN.{length}
 use Rattle.lexis.specs.Bytes.{Ran}
 use Rattle.lexis.specs.Operator.{mark_to}
-use Rattle.engine.specs.Base.{has}
 use Rattle.grammar.specs.declared.moves.Went.{Went}
 use Rattle.grammar.specs.Moves.{Under, Move, gap, mark, opens, any, place, walk}
 use Rattle.grammar.specs.Hcl.{under}
@@ -20,14 +18,14 @@ use Rattle.grammar.specs.Code.{atoms, move_of, operation, argument, class, other
 use Rattle.checker.specs.declared.pass.Passed.{Passed}
 use Rattle.checker.specs.declared.lone.Lone.{Lone}
 use Rattle.checker.specs.Rows.{row_at}
-use Rattle.checker.specs.Program.{own, own_move, code_in, move_in, begin_in, laid_out}
+use Rattle.checker.specs.Program.{own, own_move, code_in, move_in, begin_in}
 use Rattle.checker.specs.LeafMore.{Goes, AfterBy}
 use Rattle.index.specs.declared.mark.Token.{Token}
 use Rattle.index.specs.Mark.{TokenHere}
 use Rattle.checker.specs.Lone.{Behind}
 use Rattle.checker.specs.Lay.{Passing, PassedBy, EndsAt, Laying, LaidBy}
 use Rattle.checker.proofs.Goings.{open_deep, open_on, open_no, any_on, any_no, shut_on, shut_no}
-use Rattle.checker.proofs.Lays.{no_keys, Known, known, Turn, turn_start, turn_other, turn_passing, lay_kid, lay_kid_no, lay_rep, lay_rep_no, next_of}
+use Rattle.checker.proofs.Lays.{no_keys, known, Turn, turn_start, turn_other, turn_passing, lay_kid, lay_kid_no, lay_rep, lay_rep_no, next_of}
 use Rattle.checker.proofs.Directs.{no_op_lem, direct_move, direct_stop, direct_fork, direct_other, direct_end}
 
 record Codes : Type 0 where

@@ -1,12 +1,12 @@
 -- A layout that goes over children, taken apart from the left.
-use Prim.Native.Nat.{ℕ, ◌<◌}
-use mathlib.Core.Path.{◌≡◌, refl, sym, ap, subst, ◌∙◌}
-use mathlib.Core.Option.{Option, none, some}
+use Prim.Native.Nat.{ℕ}
+use mathlib.Core.Path.{◌≡◌, refl, sym, subst, ◌∙◌}
+use mathlib.Core.Option.{none, some}
 use mathlib.Core.List.{List, [], ◌∷◌, map}
 use native.Mathlib.Omega.{arith}
 use Rattle.engine.specs.Base.{Rec}
 use Rattle.engine.specs.BaseLaws.{some_is}
-use Rattle.engine.specs.Layout.{Lay, bad, fin, move, kid, fork, rep, Lang}
+use Rattle.engine.specs.Layout.{Lay, fin, move, kid, fork, rep, Lang}
 use Rattle.engine.specs.Rule.{Runs, rfin, rmove, rkid, ryes, rno, rrep, rend, Firm}
 use Rattle.engine.specs.Handed.{Tests, tnil, tcons}
 use Rattle.grammar.specs.Moves.{Under, Move}

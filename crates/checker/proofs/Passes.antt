@@ -1,13 +1,12 @@
 -- A child in its place.
-use Prim.Native.Nat.{ℕ, zero, suc, ◌+◌, ◌*◌, ◌-◌, ◌/◌, ◌%◌, ◌≤◌, ◌<◌}
+use Prim.Native.Nat.{ℕ, zero, suc, ◌+◌, ◌/◌, ◌%◌, ◌<◌}
 use mathlib.Core.Path.{◌≡◌, refl, sym, ap, subst, ◌∙◌}
 use mathlib.Core.Bool.{Bool, true, false, cond, not, or-false, ◌&&◌, ◌||◌}
 use mathlib.Core.List.{List, [], ◌∷◌, ◌++◌}
 use native.Mathlib.Omega.{arith}
-use native.Mathlib.Nat.{sub-zero}
-use lib.ListN.{length, get_or, set, take, drop, length-set}
+use lib.ListN.{length, get_or, set, length-set}
 use lib.Dec.{eqb, T}
-use borrow.Author.Tests.{eqb-true, eqb-false, eq-eqb, ne_eqb}
+use borrow.Author.Tests.{eqb-true, eqb-false}
 use Rattle.lexis.specs.Keys.{among, same_key}
 use Rattle.index.specs.Mark.{mark_at}
 use Rattle.index.specs.Index.{Indexed, Inserted}
@@ -18,14 +17,14 @@ use Rattle.grammar.specs.declared.shape.Child.{Child}
 use Rattle.grammar.specs.Kinds.{tight_of}
 use Rattle.grammar.specs.Moves.{Want, an_expression, lone, lones}
 use Rattle.grammar.specs.Layouts.{Class, entry}
-use Rattle.grammar.specs.Hcl.{under, downs, bounds, styles, starts}
-use Rattle.grammar.specs.Published.{Depth, depth, depth_of, kinds_of, More, Suits}
+use Rattle.grammar.specs.Hcl.{under, downs, styles, starts}
+use Rattle.grammar.specs.Published.{depth, kinds_of, More}
 use Rattle.checker.specs.declared.pass.Met.{Met}
 use Rattle.checker.specs.declared.pass.Passed.{Passed}
 use Rattle.checker.specs.Rows.{row_at, rec_at}
 use Rattle.checker.specs.Program.{class_in}
 use Rattle.checker.specs.Leaf.{kinds_by, ChildAt}
-use Rattle.checker.specs.Lay.{coded, Both, KeysOf, SuitsAt, KidBy, MetAt, no_pass, Passing, PassedBy, EndsAt}
+use Rattle.checker.specs.Lay.{coded, Both, KeysOf, SuitsAt, KidBy, MetAt, no_pass, PassedBy, EndsAt}
 
 -- ---- the end of a row
 

@@ -1,7 +1,7 @@
 -- The program: where a kind's begins, its instructions, what a child is under, what fits.
 use Prim.Native.Nat.{ℕ, zero, suc, ◌-◌, ◌/◌, ◌%◌, ◌≤◌, ◌<◌}
 use mathlib.Core.Path.{◌≡◌, refl, sym, ap, ◌∙◌}
-use mathlib.Core.List.{List, ◌∷◌}
+use mathlib.Core.List.{List}
 use mathlib.Core.Bool.{Bool, true, false}
 use native.Mathlib.Omega.{arith}
 use lib.ListN.{get_or-eq_default}
@@ -13,7 +13,7 @@ use Rattle.grammar.specs.declared.shape.Child.{Child}
 use Rattle.grammar.specs.Code.{code, operation, argument, class, otherwise, begin, class_of}
 use Rattle.grammar.specs.Kinds.{tights, tight_of}
 use Rattle.grammar.specs.Moves.{Want, Under}
-use Rattle.grammar.specs.Layouts.{Class, key}
+use Rattle.grammar.specs.Layouts.{Class}
 use Rattle.grammar.specs.Hcl.{under, downs, bounds}
 use Rattle.grammar.specs.Published.{kinds_of, More}
 use Rattle.grammar.specs.Said.{Instructed, ChildOf, want_of}

@@ -1,19 +1,19 @@
 -- What is left of a layout, by what it begins with.
-use Prim.Native.Nat.{ℕ, ◌+◌, ◌*◌, ◌/◌, ◌%◌, ◌≤◌, ◌<◌}
+use Prim.Native.Nat.{ℕ, ◌+◌, ◌/◌, ◌%◌, ◌<◌}
 use mathlib.Core.Path.{◌≡◌, refl, sym, ap, subst, ◌∙◌}
 use mathlib.Core.Bool.{Bool, true, false, cond}
-use mathlib.Core.Option.{Option, none, some}
+use mathlib.Core.Option.{none, some}
 use mathlib.Core.List.{List, [], ◌∷◌, map}
 use native.Mathlib.Omega.{arith}
-use lib.ListN.{length, get_or, set}
+use lib.ListN.{get_or, set}
 use lib.Seq.{get_or-set_same, get_or-set_other}
 use lib.Dec.{eqb, T}
 use Rattle.lexis.specs.RunLaws.{clash}
 use Rattle.index.specs.IndexLaws.{indexed_none}
 use Rattle.engine.specs.Base.{Rec}
 use Rattle.engine.specs.BaseLaws.{some_is}
-use Rattle.engine.specs.Layout.{Lay, fin, move, kid, fork, rep}
-use Rattle.engine.specs.Rule.{Runs, rfin, rmove, rkid, ryes, rno, rrep, rend}
+use Rattle.engine.specs.Layout.{fin, move, kid, fork, rep}
+use Rattle.engine.specs.Rule.{rfin, rmove, rkid, ryes, rno, rrep, rend}
 use Rattle.grammar.specs.declared.shape.Child.{Child}
 use Rattle.grammar.specs.Moves.{Under, Move, place, walk}
 use Rattle.grammar.specs.Layouts.{Class, entry, Layout, layout_of}
@@ -24,10 +24,10 @@ use Rattle.checker.specs.Family.{Chain}
 use Rattle.checker.specs.Program.{class_in, is_entry}
 use Rattle.checker.specs.Leaf.{ChildAt}
 use Rattle.checker.specs.Child.{kidded}
-use Rattle.checker.specs.Lay.{coded, depths_at, Both, KidBy, Seating, Direct, PassedBy, Filled, Over, EndsAt, LaidBy}
+use Rattle.checker.specs.Lay.{coded, depths_at, Both, KidBy, Direct, PassedBy, Filled, Over, EndsAt, LaidBy}
 use Rattle.checker.specs.Rest.{Goes, RestBy, StepBy}
 use Rattle.checker.proofs.Overs.{over_fin, over_kid, over_move, over_yes, over_no, over_end}
-use Rattle.checker.proofs.Lays.{fit_any, next_of, Next, none_left, chain_le}
+use Rattle.checker.proofs.Lays.{fit_any, next_of, none_left}
 use Rattle.checker.proofs.Directs.{kid_passed}
 use Rattle.checker.proofs.Atoms.{To, Not}
 

@@ -1,27 +1,26 @@
 -- The rule at a row that is a token alone: of the kind, the end and the flag that one look tells, and of no other.
-use Prim.Native.Nat.{ℕ, ◌+◌, ◌*◌, ◌/◌, ◌%◌, ◌≤◌, ◌<◌}
+use Prim.Native.Nat.{ℕ, ◌/◌, ◌%◌, ◌≤◌}
 use mathlib.Core.Path.{◌≡◌, refl, sym, ap, subst, ◌∙◌}
-use mathlib.Core.Bool.{Bool, true, false, cond, ◌&&◌, ◌||◌}
-use mathlib.Core.Logic.{◌⊎◌, inl, inr}
+use mathlib.Core.Bool.{Bool, true, false, cond}
+use mathlib.Core.Logic.{inl, inr}
 use mathlib.Core.Option.{some}
-use mathlib.Core.List.{List, [], ◌∷◌, map}
+use mathlib.Core.List.{List, [], map}
 use native.Mathlib.Omega.{arith}
-use lib.Dec.{eqb, leb}
-use borrow.Author.Tests.{eqb-true, eqb-false, eq-eqb, ne_eqb, lt-leb, le-leb}
+use lib.Dec.{eqb}
+use borrow.Author.Tests.{eqb-true, eqb-false, eq-eqb, ne_eqb, lt-leb}
 use Rattle.lexis.specs.RunLaws.{clash}
 use Rattle.engine.specs.Base.{Rec}
 use Rattle.engine.specs.BaseLaws.{some_is}
-use Rattle.engine.specs.Layout.{Lay, fin, move, fork, named}
+use Rattle.engine.specs.Layout.{fin, named}
 use Rattle.engine.specs.Rule.{Runs, rfin, rmove, rno}
 use Rattle.grammar.specs.declared.picks.Head.{Head}
-use Rattle.grammar.specs.Moves.{Want, an_expression, Under, place, walk}
+use Rattle.grammar.specs.Moves.{Want, an_expression, Under, place}
 use Rattle.grammar.specs.Layouts.{Layout, layout_of}
 use Rattle.grammar.specs.Hcl.{hcl, under, pick_at}
 use Rattle.grammar.specs.Said.{kind_of}
 use Rattle.grammar.specs.PickLaws.{kind_some}
 use Rattle.grammar.specs.Alone.{Alone, word, digits, HeadAt}
 use Rattle.grammar.specs.Published.{Depth, depth_of, want_of, style_of, Laid}
-use Rattle.checker.specs.declared.single.Look.{Look}
 use Rattle.checker.specs.Rows.{row_at, rec_at}
 use Rattle.checker.specs.Family.{Chain}
 use Rattle.checker.specs.Leaf.{is_grown, read_as}

@@ -1,41 +1,34 @@
 -- The pieces, interpolations and the end of a text.
-use Prim.Native.Nat.{ℕ, zero, suc, ◌+◌, ◌*◌, ◌/◌, ◌%◌, ◌≤◌, ◌<◌}
+use Prim.Native.Nat.{ℕ, ◌+◌}
 use mathlib.Core.Path.{◌≡◌, refl, sym, ap, subst, ◌∙◌}
-use mathlib.Core.Bool.{Bool, true, false, cond, ◌&&◌, ◌||◌}
-use mathlib.Core.Option.{Option, none, some}
+use mathlib.Core.Bool.{Bool, true, false, cond, ◌||◌}
+use mathlib.Core.Option.{none, some}
 use mathlib.Core.Logic.{◌⊎◌, inl, inr}
-use mathlib.Core.List.{List, [], ◌∷◌, ◌++◌, map, append_assoc, append-nil}
+use mathlib.Core.List.{List, [], ◌∷◌}
 use native.Mathlib.Omega.{arith}
-use lib.ListN.{length, get_or, set, drop, length-set}
-use lib.Seq.{get_or-set_same, get_or-set_other}
+use lib.ListN.{drop}
 use lib.Dec.{eqb, eqb→eq, T}
-use borrow.Author.Tests.{eqb-true, eqb-false, eq-eqb, ne_eqb}
+use borrow.Author.Tests.{eqb-true, eqb-false}
 use Rattle.lexis.specs.declared.heredoc.Line.{Line}
 use Rattle.lexis.specs.declared.heredoc.Line.TheVariants as line
 use Rattle.lexis.specs.declared.string.Why.{Why}
 use Rattle.lexis.specs.declared.string.Why.TheVariants as why
 use Rattle.lexis.specs.declared.string.Run.{Run}
-use Rattle.lexis.specs.Bytes.{stands, byte_at, begins}
+use Rattle.lexis.specs.Bytes.{stands, byte_at}
 use Rattle.lexis.specs.Heredoc.{part, opener_at, line_at, fresh_at}
-use Rattle.lexis.specs.String.{Mode, quoted, heredoc, Unit, is, not, unit_in, text_at, mode_of, RunHere}
-use Rattle.lexis.specs.RunLaws.{clash, stands_two}
-use Rattle.engine.specs.Base.{Rec, has}
+use Rattle.lexis.specs.String.{Mode, quoted, heredoc, not, unit_in, text_at, mode_of, RunHere}
+use Rattle.lexis.specs.RunLaws.{clash}
+use Rattle.engine.specs.Base.{has}
 use Rattle.engine.specs.BaseLaws.{some_is, or_t}
-use Rattle.engine.specs.Layout.{fin, move, rep}
-use Rattle.engine.specs.Rule.{Runs, rfin, rmove, rrep, rend}
-use Rattle.grammar.specs.Kinds.{Unexpected, tight_of}
-use Rattle.grammar.specs.Moves.{Want, a_piece, an_expression, Under, Step, to, no, place, more, close, round, unit_at, closes_as, close_by, close_as, goes_as, walk}
+use Rattle.grammar.specs.Moves.{a_piece, Step, to, no, place, round, unit_at, closes_as, close_by}
 use Rattle.grammar.specs.MoveLaws.{no_to, to_is}
-use Rattle.grammar.specs.Layouts.{Class, piecewise, Layout, text_lay}
-use Rattle.grammar.specs.Hcl.{hcl, under, is_broken, styles, downs}
-use Rattle.grammar.specs.UnitLaws.{Stands, text_some, marks, is_line, closable, run_why, run_none, run_some}
-use Rattle.grammar.specs.TextLaws.{more_unit, more_dollar, more_not, close_by_lem, walk_one}
-use Rattle.grammar.specs.Published.{Depth, depth_of, depth, want_of, Piece, Suits}
+use Rattle.grammar.specs.Hcl.{is_broken}
+use Rattle.grammar.specs.UnitLaws.{Stands, text_some, marks, is_line, closable, run_none, run_some}
+use Rattle.grammar.specs.TextLaws.{more_unit, more_dollar, more_not, close_by_lem}
+use Rattle.grammar.specs.Published.{Piece, Suits}
 use Rattle.checker.specs.Rows.{row_at, rec_at}
-use Rattle.checker.specs.Family.{Chain}
-use Rattle.checker.specs.Leaf.{Spelt, PieceBy, PieceAt}
-use Rattle.checker.specs.Lay.{coded, depths_at, Both, Over}
-use Rattle.checker.specs.Texts.{LineEnds, Delimited, ClosesBy, ShutsAt, OpensAt, Sane, StrandAt, Sanes, Spelts, Texting, Text, TextBy}
+use Rattle.checker.specs.Leaf.{PieceBy, PieceAt}
+use Rattle.checker.specs.Texts.{LineEnds, Delimited, ClosesBy, ShutsAt, OpensAt, Sane, StrandAt}
 
 place_to : (o : Step) {q : ℕ} → place o ≡ some q → o ≡ to q
 place_to (to p) e = ap to (some_is e)

@@ -1,20 +1,19 @@
 -- A table's rows: the rule of a table from anyone, over its numbers.
-use Prim.Native.Nat.{ℕ, zero, suc, ◌+◌, ◌*◌, ◌-◌, ◌%◌, ◌≤◌, ◌<◌}
+use Prim.Native.Nat.{ℕ, zero, suc, ◌+◌, ◌*◌, ◌%◌, ◌≤◌, ◌<◌}
 use mathlib.Core.Path.{◌≡◌, refl, sym, ap, subst, ◌∙◌, fun_ext}
-use mathlib.Core.Bool.{Bool, true, false}
-use mathlib.Core.List.{List, [], ◌∷◌, ◌++◌, map}
+use mathlib.Core.Bool.{false}
+use mathlib.Core.List.{List, [], ◌∷◌}
 use native.Mathlib.Omega.{arith}
 use lib.ListN.{length, get_or, drop}
 use lib.Dec.{T}
 use Rattle.engine.specs.Base.{has}
 use Rattle.engine.specs.Rule.{Kids, Table}
-use Rattle.engine.specs.Flat.{Row}
 use Rattle.lexis.specs.Utf8.{Formed}
 use Rattle.grammar.specs.Kinds.{most, levels}
 use Rattle.grammar.specs.Moves.{an_expression}
 use Rattle.grammar.specs.Table.{Record, numbers}
-use Rattle.grammar.specs.Published.{depth, kinds_of, Rule, used, Texted, row_of, rows_in, no_row, Holds}
-use Rattle.grammar.specs.RuleTable.{Parts, parts_holds, holds_parts}
+use Rattle.grammar.specs.Published.{depth, kinds_of, Rule, used, Texted, row_of, rows_in, Holds}
+use Rattle.grammar.specs.RuleTable.{parts_holds, holds_parts}
 use Rattle.grammar.specs.OrderLaws.{holds_ordered}
 use Rattle.checker.specs.Rows.{row_at, rows}
 

@@ -1,36 +1,35 @@
 -- The rule at a string, a template and a heredoc.
-use Prim.Native.Nat.{ℕ, zero, suc, ◌+◌, ◌*◌, ◌/◌, ◌%◌, ◌≤◌, ◌<◌}
+use Prim.Native.Nat.{ℕ, ◌+◌, ◌/◌, ◌%◌}
 use mathlib.Core.Path.{◌≡◌, refl, sym, ap, subst, ◌∙◌}
 use mathlib.Core.Bool.{Bool, true, false, cond, ◌&&◌}
-use mathlib.Core.Option.{Option, none, some}
+use mathlib.Core.Option.{none, some}
 use mathlib.Core.List.{List, [], ◌∷◌, map}
 use native.Mathlib.Omega.{arith}
-use lib.ListN.{length, get_or}
 use lib.Dec.{eqb, T}
-use borrow.Author.Tests.{eqb-true, eqb-false, eq-eqb, ne_eqb}
+use borrow.Author.Tests.{eqb-true, eq-eqb, ne_eqb}
 use Rattle.lexis.specs.declared.heredoc.Opener.{Opener}
 use Rattle.lexis.specs.Bytes.{byte_at, stands, is_foreign}
 use Rattle.lexis.specs.Heredoc.{opener_at, opener_word, Opened}
 use Rattle.lexis.specs.String.{mode_of}
-use Rattle.lexis.specs.RunLaws.{clash, stands_one, stands_two, and_left}
+use Rattle.lexis.specs.RunLaws.{stands_one, stands_two, and_left}
 use Rattle.engine.specs.Base.{Rec}
 use Rattle.engine.specs.BaseLaws.{some_is}
-use Rattle.engine.specs.Layout.{Lang, fin, move, fork, rep, named}
+use Rattle.engine.specs.Layout.{move, named}
 use Rattle.engine.specs.Rule.{Runs, rfin, rmove, ryes, rno, rrep, rend, Local}
 use Rattle.engine.specs.Handed.{Tests, tnil, tcons}
-use Rattle.grammar.specs.Moves.{Want, an_expression, Under, Move, to, no, place, round, ident, ending, more, close, unexpected, walk}
+use Rattle.grammar.specs.Moves.{Want, an_expression, Under, Move, to, no, place, round, ident, ending, walk}
 use Rattle.grammar.specs.Kinds.{Foreign, Unexpected}
-use Rattle.grammar.specs.Layouts.{Class, Layout, layout_of, layouts, plain, text_lay, template_lay, heredoc_lay, string_lay}
+use Rattle.grammar.specs.Layouts.{Layout, layout_of, layouts, plain, text_lay, template_lay, heredoc_lay}
 use Rattle.grammar.specs.Hcl.{hcl, under, pick_at}
 use Rattle.grammar.specs.TextLaws.{pick_template, pick_heredoc, plain_yes, plain_no, quote_stands, unexpected_is, Worded as Opens, word_opened}
 use Rattle.grammar.specs.Published.{Depth, depth_of, wanted, want_of, style_of, Suits, Laid}
 use Rattle.checker.specs.Rows.{row_at, rec_at}
-use Rattle.checker.specs.Family.{Chain, Linked}
+use Rattle.checker.specs.Family.{Chain}
 use Rattle.checker.specs.Program.{kidless}
 use Rattle.checker.specs.Leaf.{is_grown, FirstAt, StringAt}
 use Rattle.checker.specs.Lay.{coded, depths_at, Both, Over}
-use Rattle.checker.specs.Texts.{Sanes, Spelts, Texting, Text, TextBy}
-use Rattle.checker.specs.Node.{Noding, Worded, RuleBy}
+use Rattle.checker.specs.Texts.{Sanes, Spelts, Text, TextBy}
+use Rattle.checker.specs.Node.{RuleBy}
 use Rattle.checker.proofs.Overs.{over_move, over_yes, over_no}
 use Rattle.checker.proofs.Heads.{Headed, headed_of, of_headed, rule_no, sort_is, over_kidless}
 

@@ -1,5 +1,5 @@
 -- The text of a template or heredoc under way: what holds whenever the loop of `texts` begins a turn, and what each child does.
-use Prim.Native.Nat.{ℕ, zero, suc, ◌+◌, ◌*◌, ◌/◌, ◌%◌, ◌≤◌, ◌<◌}
+use Prim.Native.Nat.{ℕ, ◌/◌, ◌%◌, ◌≤◌, ◌<◌}
 use mathlib.Core.Path.{◌≡◌, refl, sym, ap, subst, ◌∙◌}
 use mathlib.Core.Bool.{Bool, true, false}
 use mathlib.Core.Option.{Option, none, some}
@@ -8,12 +8,11 @@ use native.Mathlib.Omega.{arith}
 use lib.ListN.{length, get_or, set, length-set}
 use lib.Seq.{get_or-set_same, get_or-set_other}
 use lib.Dec.{eqb, ltb, ltb→lt, T}
-use Rattle.lexis.specs.String.{Mode, mode_of}
+use Rattle.lexis.specs.String.{mode_of}
 use Rattle.lexis.specs.RunLaws.{clash}
-use Rattle.engine.specs.Base.{Rec, has, all_of}
+use Rattle.engine.specs.Base.{Rec, has}
 use Rattle.engine.specs.BaseLaws.{some_is, has_all}
-use Rattle.engine.specs.Layout.{fin, move, rep}
-use Rattle.engine.specs.Rule.{Runs, rfin, rmove, rrep, rend}
+use Rattle.engine.specs.Rule.{rfin, rmove, rrep, rend}
 use Rattle.grammar.specs.Kinds.{tight_of}
 use Rattle.grammar.specs.Moves.{a_piece, Under, place, more, close, round, walk}
 use Rattle.grammar.specs.Layouts.{piecewise, text_lay}
@@ -23,7 +22,7 @@ use Rattle.grammar.specs.Published.{Depth, depth_of, want_of, Suits}
 use Rattle.checker.specs.Rows.{row_at, rec_at}
 use Rattle.checker.specs.Family.{Chain}
 use Rattle.checker.specs.Lay.{coded, depths_at, Both, Over}
-use Rattle.checker.specs.Texts.{ShutsAt, Sane, StrandAt, Sanes, Spelts, Texting, Text, TextBy}
+use Rattle.checker.specs.Texts.{ShutsAt, StrandAt, Sanes, Spelts, Text, TextBy}
 use Rattle.checker.proofs.Overs.{over_fin, over_move, over_rep, over_end}
 use Rattle.checker.proofs.Lays.{Below, below_snoc, depths_set, depths_snoc, told_snoc, chain_same, next_of, none_left}
 

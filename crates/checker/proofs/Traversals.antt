@@ -1,9 +1,9 @@
 -- Traversals: one part after the other.
-use Prim.Native.Nat.{ℕ, ◌%◌, ◌≤◌, ◌<◌}
+use Prim.Native.Nat.{ℕ, ◌%◌}
 use mathlib.Core.Path.{◌≡◌, refl}
 use mathlib.Core.Bool.{Bool, true, false}
 use mathlib.Core.List.{List, [], ◌∷◌}
-use lib.ListN.{length, get_or}
+use lib.ListN.{get_or}
 use lib.Dec.{eqb}
 use Rattle.engine.specs.Layout.{fin, kid, rep}
 use Rattle.grammar.specs.declared.moves.Went.{Went}

@@ -1,13 +1,13 @@
 -- The walk over the rows, from the last one backwards: what holds whenever its loop begins a turn, and what each row does.
-use Prim.Native.Nat.{ℕ, zero, suc, ◌+◌, ◌*◌, ◌-◌, ◌/◌, ◌%◌, ◌≤◌, ◌<◌}
+use Prim.Native.Nat.{ℕ, suc, ◌+◌, ◌*◌, ◌-◌, ◌≤◌, ◌<◌}
 use mathlib.Core.Path.{◌≡◌, refl, sym, ap, subst, ◌∙◌}
-use mathlib.Core.Bool.{Bool, true, false, cond, ◌||◌}
-use mathlib.Core.Option.{Option, some, none}
+use mathlib.Core.Bool.{Bool, true, false, cond}
+use mathlib.Core.Option.{some}
 use mathlib.Core.Logic.{◌⊎◌, inl, inr}
-use mathlib.Core.List.{List, [], ◌∷◌, ◌++◌, map}
+use mathlib.Core.List.{List, [], ◌∷◌, map}
 use native.Mathlib.Omega.{arith}
-use lib.ListN.{length, get_or, set, length-set}
-use lib.Seq.{get_or-set_same, get_or-set_other}
+use lib.ListN.{length, get_or, set}
+use lib.Seq.{get_or-set_same}
 use lib.Dec.{eqb, eqb→eq, T}
 use borrow.Author.Tests.{eqb-true, eqb-false, eq-eqb, ne_eqb}
 use Rattle.lexis.specs.Bytes.{stands}
@@ -16,11 +16,10 @@ use Rattle.lexis.specs.String.{Mode}
 use Rattle.lexis.specs.RunLaws.{clash}
 use Rattle.engine.specs.Base.{Rec, has, choose}
 use Rattle.engine.specs.BaseLaws.{or_t, t_or, some_is}
-use Rattle.engine.specs.Rule.{Kids, knil, kcons, Local, first, later, Node, Table}
-use Rattle.grammar.specs.Kinds.{most, levels}
+use Rattle.engine.specs.Rule.{Kids, knil, kcons, Local, first, later, Node}
+use Rattle.grammar.specs.Kinds.{most}
 use Rattle.grammar.specs.Moves.{an_expression, a_piece, Under, round}
 use Rattle.grammar.specs.Hcl.{hcl, under, pick_at}
-use Rattle.grammar.specs.Table.{Record}
 use Rattle.grammar.specs.Published.{Depth, depth, kinds_of, want_of, style_of, Laid, rule_as, Rule, taken, used, Texted, Holds}
 use Rattle.grammar.specs.RuleTable.{kids_same, count_pos}
 use Rattle.checker.specs.declared.text.Used.{Used}
@@ -28,8 +27,7 @@ use Rattle.checker.specs.Rows.{row_at, rows, rec_at}
 use Rattle.checker.specs.Leaf.{is_grown, Spelt, Placed, Columns}
 use Rattle.checker.specs.Lay.{coded, depths_at}
 use Rattle.checker.specs.Texts.{Sane, Sanes, Spelts}
-use Rattle.checker.specs.Node.{Noding, Worded, NodeBy}
-use Rattle.checker.specs.Check.{Checks, Walking}
+use Rattle.checker.specs.Node.{Worded, NodeBy}
 use Rattle.checker.proofs.Texteds.{placed_of, spelt_word, spelt_piece, texted_of}
 use Rattle.checker.proofs.Tabled.{Full, full_of, of_full, ordered_of}
 use Rattle.checker.proofs.Callings.{follow_grown}

@@ -1,5 +1,5 @@
 -- What the checker promises.
-use Rattle.std.specs.Prelude.{ℕ, ◌-◌, ◌*◌, ◌≤◌, ◌<◌, ◌≡◌, List, Bool, true, false, length, T}
+use Rattle.std.specs.Prelude.{ℕ, ◌-◌, ◌*◌, ◌≤◌, ◌≡◌, List, Bool, true, false, length, T}
 use Rattle.lexis.specs.Utf8.{Formed}
 use Rattle.engine.specs.Base.{has}
 use Rattle.grammar.specs.Moves.{an_expression}

@@ -1,7 +1,6 @@
 -- Demand 3, end to end: the checker says yes exactly when the reader, lent as much room as the source has bytes or more, would accept it and return
 -- that very table and text.
 use Rattle.std.specs.Prelude.{ℕ, ◌≤◌, ◌≡◌, refl, List, Bool, true, false, ◌↔◌, length}
-use Rattle.lexis.specs.RunLaws.{clash}
 use Rattle.grammar.specs.Published.{Holds}
 use Rattle.grammar.specs.Demands.{Gives}
 use Rattle.grammar.specs.DemandLaws.{demand_3}

@@ -1,5 +1,5 @@
 -- The children of a row, found by their counts from the right, and the links between them.
-use Rattle.std.specs.Prelude.{ℕ, zero, suc, ◌+◌, ◌*◌, ◌≤◌, ◌<◌, ◌≡◌, List, [], ◌∷◌, length, get_or}
+use Rattle.std.specs.Prelude.{ℕ, suc, ◌+◌, ◌*◌, ◌≤◌, ◌<◌, ◌≡◌, List, [], ◌∷◌, length, get_or}
 use Rattle.engine.specs.Rule.{Kids}
 use Rattle.checker.specs.Rows.{row_at, rows}
 

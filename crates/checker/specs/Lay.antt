@@ -1,5 +1,5 @@
 -- A layout laid over the children of a row: what the code of it promises.
-use Rattle.std.specs.Prelude.{ℕ, zero, suc, ◌+◌, ◌-◌, ◌*◌, ◌/◌, ◌%◌, ◌≤◌, ◌<◌, ◌≡◌, List, [], ◌∷◌, map, Bool, true, false, not, ◌&&◌, length, get_or, set, T, eqb}
+use Rattle.std.specs.Prelude.{ℕ, ◌+◌, ◌*◌, ◌/◌, ◌%◌, ◌≤◌, ◌<◌, ◌≡◌, List, [], ◌∷◌, map, Bool, true, false, not, ◌&&◌, length, get_or, set, T, eqb}
 use Rattle.lexis.specs.Keys.{among}
 use Rattle.index.specs.Index.{Indexed}
 use Rattle.index.specs.Index as index

@@ -1,9 +1,9 @@
 -- What the leaves of the checker promise: each tests one thing of the rule (grammar's Published).
-use Rattle.std.specs.Prelude.{ℕ, zero, suc, ◌+◌, ◌-◌, ◌*◌, ◌≤◌, ◌<◌, ◌≡◌, List, [], ◌∷◌, Bool, true, false, cond, ◌&&◌, ◌||◌, length, take, drop, T, eqb, leb}
-use Rattle.std.proofs.Math.Option.{Option, none, some}
+use Rattle.std.specs.Prelude.{ℕ, zero, suc, ◌+◌, ◌≤◌, ◌<◌, ◌≡◌, List, [], ◌∷◌, Bool, true, false, cond, ◌&&◌, ◌||◌, length, take, drop, eqb, leb}
+use Rattle.std.proofs.Math.Option.{none, some}
 use Rattle.lexis.specs.Bytes.{stands}
-use Rattle.lexis.specs.String.{Mode, quoted, text_at, mode_of}
-use Rattle.engine.specs.Base.{Rec, has}
+use Rattle.lexis.specs.String.{Mode, quoted, text_at}
+use Rattle.engine.specs.Base.{Rec}
 use Rattle.engine.specs.Layout.{named}
 use Rattle.engine.specs.Rule.{Local}
 use Rattle.grammar.specs.declared.shape.Instr.{Instr}

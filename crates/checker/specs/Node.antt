@@ -1,5 +1,5 @@
 -- The rule at one row: what the code of it promises.
-use Rattle.std.specs.Prelude.{ℕ, zero, suc, ◌+◌, ◌*◌, ◌/◌, ◌%◌, ◌≤◌, ◌<◌, ◌≡◌, List, [], ◌∷◌, map, Bool, true, false, ◌⊎◌, length, get_or, T, eqb}
+use Rattle.std.specs.Prelude.{ℕ, suc, ◌+◌, ◌*◌, ◌%◌, ◌≤◌, ◌<◌, ◌≡◌, List, map, Bool, true, false, ◌⊎◌, length, get_or, T, eqb}
 use Rattle.lexis.specs.String.{quoted}
 use Rattle.engine.specs.Base.{has}
 use Rattle.engine.specs.Rule.{Kids}
@@ -12,7 +12,7 @@ use Rattle.checker.specs.Rows.{row_at, rows, rec_at}
 use Rattle.checker.specs.Family.{Chain}
 use Rattle.checker.specs.declared.single.Look.{Look}
 use Rattle.checker.specs.declared.node.Left.{Left}
-use Rattle.checker.specs.Leaf.{kinds_by, is_grown, read_as, Spelt}
+use Rattle.checker.specs.Leaf.{kinds_by, read_as, Spelt}
 use Rattle.checker.specs.Lay.{coded, depths_at, Operates}
 use Rattle.checker.specs.Texts.{Sanes, Spelts}
 

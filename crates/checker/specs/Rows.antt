@@ -1,5 +1,5 @@
 -- A table of numbers from anyone, row by row.
-use Rattle.std.specs.Prelude.{ℕ, zero, suc, ◌+◌, ◌*◌, List, [], ◌∷◌, get_or}
+use Rattle.std.specs.Prelude.{ℕ, ◌+◌, ◌*◌, List, get_or}
 use Rattle.engine.specs.Base.{Rec}
 use Rattle.engine.specs.Flat.{Row}
 use Rattle.grammar.specs.Table.{Record}

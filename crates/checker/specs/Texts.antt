@@ -1,20 +1,18 @@
 -- The text of a template or heredoc over its pieces and interpolations: what the code of it promises.
-use Rattle.std.specs.Prelude.{ℕ, zero, suc, ◌+◌, ◌*◌, ◌/◌, ◌%◌, ◌≤◌, ◌<◌, ◌≡◌, List, [], ◌∷◌, map, Bool, true, false, length, get_or, T, eqb}
-use Rattle.std.proofs.Math.Option.{Option, none, some}
-use Rattle.lexis.specs.declared.heredoc.Line.{Line}
+use Rattle.std.specs.Prelude.{ℕ, ◌+◌, ◌*◌, ◌/◌, ◌%◌, ◌≤◌, ◌<◌, ◌≡◌, List, [], ◌∷◌, map, Bool, true, false, length, get_or, eqb}
+use Rattle.std.proofs.Math.Option.{none, some}
 use Rattle.lexis.specs.declared.string.Why.{Why}
 use Rattle.lexis.specs.Bytes.{stands}
 use Rattle.lexis.specs.Heredoc.{part, opener_at, line_at}
 use Rattle.lexis.specs.String.{Mode, mode_of}
-use Rattle.engine.specs.Base.{Rec}
-use Rattle.grammar.specs.Moves.{Want, a_piece, Under, Step, to, place, more, close, round, closes_as, close_by, walk}
+use Rattle.grammar.specs.Moves.{a_piece, Under, to, place, more, close, round, closes_as, close_by, walk}
 use Rattle.grammar.specs.Layouts.{text_lay}
 use Rattle.grammar.specs.UnitLaws.{is_line}
 use Rattle.grammar.specs.Published.{depth_of, Suits}
 use Rattle.checker.specs.Rows.{row_at, rec_at}
 use Rattle.checker.specs.Family.{Chain}
 use Rattle.checker.specs.Leaf.{Spelt}
-use Rattle.checker.specs.Lay.{depths_at, Filled, Over}
+use Rattle.checker.specs.Lay.{depths_at, Over}
 
 -- ---- how a text ends at q
 

@@ -1,11 +1,9 @@
 use native.Mathlib.Omega.{arith}
-use Prim.Native.Nat.{◌-◌, ◌+◌, ◌*◌, ◌<◌, ◌≤◌}
-use mathlib.Core.Path.{◌≡◌, sym, ◌∙◌}
+use mathlib.Core.Path.{sym, ◌∙◌}
 use borrow.Author.Tests.{not-true, not-false}
 use Rattle.checker.proofs.Checks.{checks_no, checks_long, checks_unformed}
 use Rattle.checker.proofs.Tabled.{sevens}
 use Rattle.lexis.proofs.Wellformed.{good_formed}
-use borrow.Author.Rules.{rules}
 use Rattle.checker.proofs.check.Goals as goal
 
 pub returns-then-source-gt65535 : goal.returns-then-source-gt65535

@@ -1,6 +1,5 @@
 use native.Mathlib.Omega.{arith}
 use Rattle.checker.proofs.Tolds.{told_none}
-use borrow.Author.Rules.{rules}
 use Rattle.checker.proofs.roomed.Goals as goal
 
 pub walk-requires : goal.walk-requires

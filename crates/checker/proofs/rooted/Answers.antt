@@ -1,10 +1,6 @@
 use native.Mathlib.Omega.{arith}
-use Prim.Native.Nat.{◌-◌, ◌+◌, ◌*◌, ◌<◌, ◌≤◌}
-use mathlib.Core.Path.{◌≡◌, refl, sym, ap, subst, ◌∙◌}
-use borrow.Author.Tests.{not-true, not-false}
-use lib.ListN.{length, length-set}
-use Rattle.checker.proofs.Checks.{checks_no, rooted_no, root_at, root_count, root_start, root_end, rooted_by, checks_long, checks_unformed}
-use borrow.Author.Rules.{rules}
+use mathlib.Core.Path.{sym, ◌∙◌}
+use Rattle.checker.proofs.Checks.{rooted_no, root_at, root_count, root_start, root_end, rooted_by}
 use Rattle.checker.proofs.rooted.Goals as goal
 
 pub returns-then-n-eq0 : goal.returns-then-n-eq0

@@ -1,14 +1,9 @@
-use native.Mathlib.Omega.{arith}
-use borrow.Author.Rules.{rules}
-use Prim.Native.Nat.{◌-◌, ◌+◌, ◌*◌, ◌<◌, ◌≤◌}
-use mathlib.Core.Path.{◌≡◌, refl, sym, ap, subst, ◌∙◌}
-use borrow.Author.Tests.{not-true, not-false}
-use lib.ListN.{length, length-set}
-use Rattle.checker.proofs.Checks.{checks_no}
+use Prim.Native.Nat.{◌≤◌}
+use mathlib.Core.Path.{◌≡◌}
+use lib.ListN.{length}
 use Rattle.checker.specs.Check.{Walking}
 use Rattle.checker.specs.Told.{Told}
-use Rattle.checker.proofs.Walks.{Walked, walk_start, row_no, columns_no, row_on}
-use Rattle.checker.proofs.WalkEnds.{ended}
+use Rattle.checker.proofs.Walks.{Walked}
 use Rattle.checker.proofs.walk.Given as goal
 
 abbrev pub invariant-loop-i : goal.invariant-loop-i

@@ -1,8 +1,3 @@
-use native.Mathlib.Omega.{arith}
-use Prim.Native.Nat.{◌-◌, ◌+◌, ◌*◌, ◌<◌, ◌≤◌}
-use mathlib.Core.Path.{◌≡◌, refl, sym, ap, subst, ◌∙◌}
-use borrow.Author.Tests.{not-true, not-false}
-use borrow.Author.Rules.{rules}
 use Rattle.checker.proofs.Bares.{attribute_no, attribute_gap_no, attribute_word_no, attribute_by}
 use Rattle.checker.proofs.bare.attribute.Goals as goal
 

@@ -1,8 +1,3 @@
-use native.Mathlib.Omega.{arith}
-use Prim.Native.Nat.{◌-◌, ◌+◌, ◌*◌, ◌<◌, ◌≤◌}
-use mathlib.Core.Path.{◌≡◌, refl, sym, ap, subst, ◌∙◌}
-use borrow.Author.Tests.{not-true, not-false}
-use borrow.Author.Rules.{rules}
 use Rattle.checker.proofs.Bares.{name_no, name_by}
 use Rattle.checker.proofs.bare.name.Goals as goal
 

@@ -3,7 +3,6 @@ use native.Mathlib.Omega.{arith}
 use borrow.Author.Tests.{not-true, not-false}
 use Rattle.checker.proofs.Rests.{rest_fin}
 use Rattle.checker.proofs.Enclosures.{seated, step_on, opener_deep, opener_no, opener_on, closer_gap_no, closer_no, closer_on}
-use borrow.Author.Rules.{rules}
 use Rattle.checker.proofs.bracket.enclosed.Goals as goal
 
 pub returns-then-own-lt2 : goal.returns-then-own-lt2

@@ -1,6 +1,3 @@
-use mathlib.Core.Bool.{Bool, true, false, cond}
-use mathlib.Core.Path.{◌≡◌, refl, sym}
-use borrow.Author.Rules.{rules}
 use Rattle.checker.proofs.bracket.flagged.Goals as goal
 
 pub returns-then-right : goal.returns-then-right

@@ -1,7 +1,6 @@
 use mathlib.Core.Path.{refl}
 use native.Mathlib.Omega.{arith}
 use Rattle.checker.proofs.Enclosures.{inside_gap_no, inside_by}
-use borrow.Author.Rules.{rules}
 use Rattle.checker.proofs.bracket.inside.Goals as goal
 
 pub returns-then-w-ne0 : goal.returns-then-w-ne0

@@ -1,8 +1,6 @@
-use mathlib.Core.Path.{refl}
 use native.Mathlib.Omega.{arith}
 use borrow.Author.Tests.{not-true, not-false}
 use Rattle.checker.proofs.Enclosures.{seated, step_on, opener_deep, opener_no, opener_on, tilde_on}
-use borrow.Author.Rules.{rules}
 use Rattle.checker.proofs.bracket.interpolation.Goals as goal
 
 pub returns-then-own-lt2 : goal.returns-then-own-lt2

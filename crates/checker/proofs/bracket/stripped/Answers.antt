@@ -1,5 +1,4 @@
 use Rattle.checker.proofs.Enclosures.{strip_gap_no, strip_no, strip_by}
-use borrow.Author.Rules.{rules}
 use Rattle.checker.proofs.bracket.stripped.Goals as goal
 
 pub returns-then-w-ne0 : goal.returns-then-w-ne0

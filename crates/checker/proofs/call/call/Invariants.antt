@@ -1,12 +1,6 @@
 use Prim.Native.Nat.{◌-◌}
-use mathlib.Core.Path.{refl, sym, ◌∙◌}
-use native.Mathlib.Omega.{arith}
-use borrow.Author.Tests.{not-true, not-false}
 use Rattle.grammar.specs.Layouts.{call_lay}
-use Rattle.checker.proofs.Enclosures.{seated}
-use Rattle.checker.proofs.Onwards.{Onward, onward_start, direct_next, direct_up}
-use Rattle.checker.proofs.Calls.{name_no, name_gap_no, name_last, colons_gap_no, name_next}
-use borrow.Author.Rules.{rules}
+use Rattle.checker.proofs.Onwards.{Onward}
 use Rattle.checker.proofs.call.call.Given as goal
 
 abbrev pub invariant-loop-i : goal.invariant-loop-i

@@ -1,9 +1,7 @@
-use mathlib.Core.Path.{refl, ◌∙◌}
 use native.Mathlib.Omega.{arith}
 use borrow.Author.Tests.{not-true, not-false}
 use Rattle.checker.proofs.Enclosures.{seated}
 use Rattle.checker.proofs.ListFors.{if_no, if_gap_no, test_no, test_by}
-use borrow.Author.Rules.{rules}
 use Rattle.checker.proofs.condition.condition.Goals as goal
 
 pub returns-then-e-p : goal.returns-then-e-p

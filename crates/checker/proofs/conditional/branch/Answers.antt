@@ -1,7 +1,6 @@
 use mathlib.Core.Path.{refl}
 use native.Mathlib.Omega.{arith}
 use Rattle.checker.proofs.Conditionals.{branch_gap_no, branch_mark_no, branch_round_no, branch_by}
-use borrow.Author.Rules.{rules}
 use Rattle.checker.proofs.conditional.branch.Goals as goal
 
 pub returns-then-g-ne0 : goal.returns-then-g-ne0

@@ -5,7 +5,6 @@ use Rattle.checker.proofs.Rests.{rest_fin}
 use Rattle.checker.proofs.Enclosures.{seated, step_on}
 use Rattle.checker.proofs.Onwards.{direct_next}
 use Rattle.checker.proofs.Conditionals.{conditional_deep, conditional_open}
-use borrow.Author.Rules.{rules}
 use Rattle.checker.proofs.conditional.conditional.Goals as goal
 
 pub returns-then-own-lt2 : goal.returns-then-own-lt2

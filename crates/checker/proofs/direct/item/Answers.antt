@@ -1,10 +1,8 @@
 use native.Mathlib.Omega.{arith}
-use Prim.Native.Nat.{◌-◌, ◌+◌, ◌*◌, ◌<◌, ◌≤◌}
-use mathlib.Core.Path.{◌≡◌, refl, sym, ap, subst, ◌∙◌}
+use mathlib.Core.Path.{refl}
 use borrow.Author.Tests.{not-true, not-false}
 use Rattle.checker.proofs.Lays.{chain_le}
 use Rattle.checker.proofs.Directs.{direct_low, item_key_no, item_key, item_sign_no, item_sign, item_space_no, item_space, item_value_no, item_value, item_end}
-use borrow.Author.Rules.{rules}
 use Rattle.checker.proofs.direct.item.Goals as goal
 
 pub kid-requires : goal.kid-requires

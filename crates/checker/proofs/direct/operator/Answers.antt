@@ -1,10 +1,7 @@
 use native.Mathlib.Omega.{arith}
-use Prim.Native.Nat.{◌-◌, ◌+◌, ◌*◌, ◌<◌, ◌≤◌}
-use mathlib.Core.Path.{◌≡◌, refl, sym, ap, subst, ◌∙◌}
 use borrow.Author.Tests.{not-true, not-false}
 use Rattle.checker.proofs.Lays.{chain_le}
 use Rattle.checker.proofs.Directs.{operator_gap_no, operator_no, operator_by}
-use borrow.Author.Rules.{rules}
 use Rattle.checker.proofs.direct.operator.Goals as goal
 
 pub returns-then-w-ne0 : goal.returns-then-w-ne0

@@ -1,10 +1,6 @@
 use native.Mathlib.Omega.{arith}
-use Prim.Native.Nat.{◌-◌, ◌+◌}
-use mathlib.Core.Path.{◌≡◌}
 use Rattle.grammar.specs.RuleTable.{kids_le}
-use Rattle.checker.proofs.Families.{Found, found_start, found_more, found_no, family_yes, family_no}
-use Rattle.checker.specs.Family.{Rowed}
-use borrow.Author.Rules.{rules}
+use Rattle.checker.proofs.Families.{found_start, found_more, found_no, family_yes, family_no}
 use Rattle.checker.proofs.family.family.Goals as goal
 
 pub returns-then-count-eq0 : goal.returns-then-count-eq0

@@ -1,5 +1,4 @@
 use Rattle.checker.proofs.Callings.{first_none, first_dollar, first_always, first_key, first_part, first_term}
-use borrow.Author.Rules.{rules}
 use Rattle.std.proofs.Common.{inl, inr, arith}
 use Rattle.checker.proofs.kinds.first_at.Goals as goal
 use Rattle.checker.proofs.kinds.first_at.Goals.{in_default-via-then-kind-lt38, in_default-via-else-kind-lt38+else-kind-lt43}

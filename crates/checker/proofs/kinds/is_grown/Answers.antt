@@ -1,5 +1,4 @@
 use Rattle.checker.proofs.Callings.{grown_conditional, grown_high, grown_low}
-use borrow.Author.Rules.{rules}
 use Rattle.checker.proofs.kinds.is_grown.Goals as goal
 
 pub returns-then-kind-eq-CONDITIONAL : goal.returns-then-kind-eq-CONDITIONAL

@@ -1,8 +1,5 @@
-use Prim.Native.Nat.{◌-◌, ◌+◌, ◌*◌, ◌<◌}
-use mathlib.Core.Path.{◌≡◌, refl, sym, ap, subst, ◌∙◌}
-use borrow.Author.Tests.{not-true, not-false}
+use mathlib.Core.Path.{sym, ◌∙◌}
 use Rattle.checker.proofs.Passes.{ends_no, ends_by_lem}
-use borrow.Author.Rules.{rules}
 use Rattle.checker.proofs.lay.ends.Goals as goal
 
 pub returns-then-j-i : goal.returns-then-j-i

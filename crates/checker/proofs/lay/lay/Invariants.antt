@@ -1,13 +1,9 @@
-use native.Mathlib.Omega.{arith}
-use Prim.Native.Nat.{◌-◌, ◌+◌, ◌*◌, ◌<◌, ◌≤◌}
-use mathlib.Core.Path.{◌≡◌, refl, sym, ap, subst, ◌∙◌}
-use borrow.Author.Tests.{not-true, not-false}
-use borrow.Author.Rules.{rules}
+use Prim.Native.Nat.{◌-◌, ◌+◌, ◌*◌, ◌≤◌}
+use mathlib.Core.Path.{◌≡◌}
 use mathlib.Core.List.{[]}
 use Rattle.checker.specs.Rows.{row_at}
 use Rattle.checker.specs.Lay.{Direct}
-use Rattle.checker.proofs.Directs.{direct_low}
-use Rattle.checker.proofs.Lays.{Turn, known, turn_start, turn_within, do_fin, do_stop, do_other, do_later, do_on, plain_kid, plain_kid_no, plain_rep, plain_rep_no, plain_up}
+use Rattle.checker.proofs.Lays.{Turn}
 use Rattle.checker.proofs.lay.lay.Given as goal
 
 abbrev pub invariant-loop-x : goal.invariant-loop-x

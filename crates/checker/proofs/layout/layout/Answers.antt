@@ -1,11 +1,10 @@
-use mathlib.Core.Path.{◌≡◌, refl, sym, subst, ◌∙◌}
+use mathlib.Core.Path.{refl, sym, subst, ◌∙◌}
 use native.Mathlib.Omega.{arith}
 use lib.Dec.{T}
 use Rattle.engine.specs.Base.{has}
 use Rattle.checker.specs.Program.{laid_out}
 use Rattle.checker.proofs.Nodes.{laid_as}
 use Rattle.checker.proofs.Layings.{index_laid, interpolation_laid, array_laid, call_laid, condition_laid, list_for_laid, parentheses_laid}
-use borrow.Author.Rules.{rules}
 use Rattle.checker.proofs.layout.layout.Goals as goal
 
 pub enclosed-requires : goal.enclosed-requires

@@ -1,7 +1,4 @@
-use mathlib.Core.Path.{sym, ◌∙◌}
-use native.Mathlib.Omega.{arith}
 use Rattle.checker.proofs.Elements.{last_closer, last_no, dots_no, dots_gap_no, dots_open, dots_by}
-use borrow.Author.Rules.{rules}
 use Rattle.checker.proofs.list.last.Goals as goal
 
 pub ends-requires : goal.ends-requires

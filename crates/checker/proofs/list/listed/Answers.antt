@@ -1,7 +1,5 @@
-use mathlib.Core.Path.{refl}
 use Rattle.checker.proofs.Enclosures.{opener_deep, opener_no, opener_on}
 use Rattle.checker.proofs.Elements.{listed_gap_no, listed_none, listed_some}
-use borrow.Author.Rules.{rules}
 use Rattle.checker.proofs.list.listed.Goals as goal
 
 pub returns-then-own-lt2 : goal.returns-then-own-lt2

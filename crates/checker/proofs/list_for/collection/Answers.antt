@@ -1,7 +1,6 @@
 use mathlib.Core.Path.{refl}
 use native.Mathlib.Omega.{arith}
 use Rattle.checker.proofs.ListFors.{collection_gap_no, collection_no, collection_space_no, collection_by}
-use borrow.Author.Rules.{rules}
 use Rattle.checker.proofs.list_for.collection.Goals as goal
 
 pub returns-then-w-ne0 : goal.returns-then-w-ne0

@@ -1,9 +1,8 @@
-use mathlib.Core.Path.{refl, ◌∙◌}
+use mathlib.Core.Path.{refl}
 use native.Mathlib.Omega.{arith}
 use borrow.Author.Tests.{not-true, not-false}
 use Rattle.checker.proofs.Enclosures.{seated, closer_gap_no}
 use Rattle.checker.proofs.ListFors.{shut_on, filter_gap_no, filter_none, filter_no, filter_on}
-use borrow.Author.Rules.{rules}
 use Rattle.checker.proofs.list_for.filtered.Goals as goal
 
 pub returns-then-w-ne0 : goal.returns-then-w-ne0

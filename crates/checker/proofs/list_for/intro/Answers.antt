@@ -1,5 +1,4 @@
 use Rattle.checker.proofs.ListFors.{intro_gap_no, intro_no, intro_by}
-use borrow.Author.Rules.{rules}
 use Rattle.checker.proofs.list_for.intro.Goals as goal
 
 pub returns-then-w-ne0 : goal.returns-then-w-ne0

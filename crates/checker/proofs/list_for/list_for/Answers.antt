@@ -1,10 +1,9 @@
-use mathlib.Core.Path.{refl, ◌∙◌}
+use mathlib.Core.Path.{◌∙◌}
 use native.Mathlib.Omega.{arith}
 use borrow.Author.Tests.{not-true, not-false}
 use Rattle.checker.proofs.Enclosures.{seated, step_on, opener_deep, opener_no, opener_on}
 use Rattle.checker.proofs.Onwards.{direct_next, direct_after}
 use Rattle.checker.proofs.ListFors.{pair_gap_no, pair_one, pair_two}
-use borrow.Author.Rules.{rules}
 use Rattle.checker.proofs.list_for.list_for.Goals as goal
 
 pub returns-then-own-lt2 : goal.returns-then-own-lt2

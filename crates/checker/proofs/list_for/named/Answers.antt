@@ -1,5 +1,4 @@
 use Rattle.checker.proofs.ListFors.{named_no, named_by}
-use borrow.Author.Rules.{rules}
 use Rattle.checker.proofs.list_for.named.Goals as goal
 
 pub returns-then-w-ne0 : goal.returns-then-w-ne0

@@ -1,9 +1,8 @@
-use mathlib.Core.Path.{refl, ◌∙◌}
+use mathlib.Core.Path.{◌∙◌}
 use native.Mathlib.Omega.{arith}
 use borrow.Author.Tests.{not-true, not-false}
 use Rattle.checker.proofs.Enclosures.{seated, step_on}
 use Rattle.checker.proofs.Onwards.{direct_next, direct_after}
-use borrow.Author.Rules.{rules}
 use Rattle.checker.proofs.list_for.ranged.Goals as goal
 
 pub collection-requires : goal.collection-requires

@@ -1,5 +1,4 @@
 use Rattle.checker.proofs.ListFors.{shut_no, shut_by}
-use borrow.Author.Rules.{rules}
 use Rattle.checker.proofs.list_for.shut.Goals as goal
 
 pub returns-then-e-at : goal.returns-then-e-at

@@ -1,5 +1,4 @@
 use Rattle.checker.proofs.ListFors.{value_gap_no, value_no, value_by}
-use borrow.Author.Rules.{rules}
 use Rattle.checker.proofs.list_for.value.Goals as goal
 
 pub returns-then-w-ne0 : goal.returns-then-w-ne0

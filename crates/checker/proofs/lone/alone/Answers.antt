@@ -1,6 +1,5 @@
-use mathlib.Core.Path.{◌≡◌, sym, ◌∙◌}
+use mathlib.Core.Path.{sym, ◌∙◌}
 use Rattle.checker.proofs.Lones.{item_behind, item_here}
-use borrow.Author.Rules.{rules}
 use Rattle.checker.proofs.lone.alone.Goals as goal
 
 pub behind-requires : goal.behind-requires

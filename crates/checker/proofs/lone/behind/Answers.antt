@@ -1,11 +1,6 @@
 use native.Mathlib.Omega.{arith}
-use Prim.Native.Nat.{◌-◌, ◌+◌, ◌≤◌, ◌<◌}
-use mathlib.Core.Path.{◌≡◌, refl, sym, ap, ◌∙◌}
-use borrow.Author.Rules.{rules}
 use borrow.Author.Tests.{not-true, not-false}
-use lib.ListN.{length}
-use Rattle.checker.specs.Lone.{Known}
-use Rattle.checker.proofs.Lones.{Trail, trail_start, trail_inside, trail_room, trail_known, trail_none, trail_on, trail_sign}
+use Rattle.checker.proofs.Lones.{trail_start, trail_inside, trail_room, trail_known, trail_none, trail_on, trail_sign}
 use Rattle.checker.proofs.lone.behind.Goals as goal
 
 pub loop-memo-init : goal.loop-memo-init

@@ -1,11 +1,7 @@
-use native.Mathlib.Omega.{arith}
-use Prim.Native.Nat.{◌-◌, ◌+◌, ◌≤◌, ◌<◌}
-use mathlib.Core.Path.{◌≡◌, refl, sym, ap, ◌∙◌}
-use borrow.Author.Rules.{rules}
-use borrow.Author.Tests.{not-true, not-false}
+use Prim.Native.Nat.{◌-◌}
 use lib.ListN.{length}
 use Rattle.checker.specs.Lone.{Known}
-use Rattle.checker.proofs.Lones.{Trail, trail_start, trail_inside, trail_room, trail_known, trail_none, trail_on, trail_sign}
+use Rattle.checker.proofs.Lones.{Trail}
 use Rattle.checker.proofs.lone.behind.Given as goal
 
 abbrev pub invariant-loop-memo : goal.invariant-loop-memo

@@ -1,12 +1,5 @@
 use native.Mathlib.Omega.{arith}
-use Prim.Native.Nat.{◌-◌, ◌+◌, ◌≤◌, ◌<◌}
-use mathlib.Core.Path.{◌≡◌, refl, sym, ap, ◌∙◌}
-use mathlib.Core.Logic.{inl, inr}
-use borrow.Author.Rules.{rules}
-use borrow.Author.Tests.{not-true, not-false}
-use lib.ListN.{length}
-use Rattle.lexis.specs.Trivia.{closes}
-use Rattle.lexis.specs.RunLaws.{reach}
+use mathlib.Core.Path.{refl}
 use Rattle.checker.proofs.Lones.{closer_here, closer_on, closer_none}
 use Rattle.checker.proofs.lone.closer.Goals as goal
 

@@ -1,13 +1,8 @@
-use native.Mathlib.Omega.{arith}
-use Prim.Native.Nat.{◌-◌, ◌+◌, ◌≤◌, ◌<◌}
-use mathlib.Core.Path.{◌≡◌, refl, sym, ap, ◌∙◌}
-use mathlib.Core.Logic.{inl, inr}
-use borrow.Author.Rules.{rules}
-use borrow.Author.Tests.{not-true, not-false}
+use Prim.Native.Nat.{◌-◌, ◌≤◌}
+use mathlib.Core.Path.{◌≡◌}
 use lib.ListN.{length}
 use Rattle.lexis.specs.Trivia.{closes}
 use Rattle.lexis.specs.RunLaws.{reach}
-use Rattle.checker.proofs.Lones.{closer_here, closer_on, closer_none}
 use Rattle.checker.proofs.lone.closer.Given as goal
 
 abbrev pub invariant-loop-i : goal.invariant-loop-i

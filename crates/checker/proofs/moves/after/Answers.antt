@@ -1,10 +1,9 @@
 use native.Mathlib.Omega.{arith}
-use mathlib.Core.Path.{◌≡◌, sym, ◌∙◌}
+use mathlib.Core.Path.{sym, ◌∙◌}
 use mathlib.Core.List.{[], ◌∷◌}
 use Rattle.lexis.specs.RunLaws.{stands_inside}
 use Rattle.checker.proofs.Goings.{after_no, after_brace, after_none}
 use Rattle.checker.proofs.Afters.{line_ended, ended_to}
-use borrow.Author.Rules.{rules}
 use Rattle.checker.proofs.moves.after.Goals as goal
 
 pub overflow_add-p : goal.overflow_add-p

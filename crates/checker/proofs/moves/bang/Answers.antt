@@ -1,5 +1,4 @@
 use Rattle.checker.proofs.Goings.{bang_deep, bang_past}
-use borrow.Author.Rules.{rules}
 use Rattle.checker.proofs.moves.bang.Goals as goal
 
 pub returns-then-left-eq0 : goal.returns-then-left-eq0

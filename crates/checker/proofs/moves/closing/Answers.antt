@@ -3,7 +3,6 @@ use mathlib.Core.Path.{sym, ◌∙◌}
 use native.Mathlib.Omega.{arith}
 use Rattle.lexis.specs.RunLaws.{stands_inside}
 use Rattle.checker.proofs.Goings.{closing_no, closing_here, closing_stuck, closing_past}
-use borrow.Author.Rules.{rules}
 use Rattle.checker.proofs.moves.closing.Goals as goal
 
 pub returns-then-g-ne0 : goal.returns-then-g-ne0

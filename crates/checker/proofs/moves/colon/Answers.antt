@@ -1,5 +1,4 @@
 use Rattle.checker.proofs.Goings.{colon_no, colon_past}
-use borrow.Author.Rules.{rules}
 use Rattle.checker.proofs.moves.colon.Goals as goal
 
 pub returns-then-g-ne0 : goal.returns-then-g-ne0

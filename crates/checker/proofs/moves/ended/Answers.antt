@@ -1,5 +1,4 @@
 use Rattle.checker.proofs.Goings.{ended_not, ended_past}
-use borrow.Author.Rules.{rules}
 use Rattle.checker.proofs.moves.ended.Goals as goal
 
 pub returns-then-x-ne-END : goal.returns-then-x-ne-END

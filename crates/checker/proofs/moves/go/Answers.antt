@@ -1,5 +1,4 @@
 use Rattle.checker.proofs.Goings.{gone_low, gone_minus, gone_bang, gone_equals, gone_colon, gone_more, gone_last}
-use borrow.Author.Rules.{rules}
 use Rattle.checker.proofs.moves.go.Goals as goal
 
 pub returns-then-a-lt200 : goal.returns-then-a-lt200

@@ -1,6 +1,5 @@
 use mathlib.Core.Path.{sym, ◌∙◌}
 use Rattle.checker.proofs.Goings.{more_no, more_stuck, more_brace, more_here}
-use borrow.Author.Rules.{rules}
 use Rattle.checker.proofs.moves.more.Goals as goal
 
 pub returns-then-g-ne0 : goal.returns-then-g-ne0

@@ -1,9 +1,8 @@
 use native.Mathlib.Omega.{arith}
-use mathlib.Core.Path.{◌≡◌, sym, ◌∙◌}
+use mathlib.Core.Path.{sym, ◌∙◌}
 use mathlib.Core.List.{[], ◌∷◌}
 use Rattle.lexis.specs.RunLaws.{stands_inside}
 use Rattle.checker.proofs.Afters.{over_gap, over_shut, over_more}
-use borrow.Author.Rules.{rules}
 use Rattle.checker.proofs.moves.over.Goals as goal
 
 pub returns-then-w-ne0 : goal.returns-then-w-ne0

@@ -1,5 +1,4 @@
 use Rattle.checker.proofs.Goings.{past_none, past_some}
-use borrow.Author.Rules.{rules}
 use Rattle.checker.proofs.moves.past.Goals as goal
 
 pub returns-then-e-p : goal.returns-then-e-p

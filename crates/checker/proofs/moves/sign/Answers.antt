@@ -1,5 +1,4 @@
 use Rattle.checker.proofs.Goings.{sign_no, sign_equals, sign_colon, sign_none}
-use borrow.Author.Rules.{rules}
 use Rattle.checker.proofs.moves.sign.Goals as goal
 
 pub returns-then-g-ne0 : goal.returns-then-g-ne0

@@ -1,10 +1,9 @@
 use native.Mathlib.Omega.{arith}
-use mathlib.Core.Path.{◌≡◌, refl}
+use mathlib.Core.Path.{refl}
 use borrow.Author.Tests.{not-true, not-false}
 use mathlib.Core.List.{[]}
 use Rattle.checker.proofs.Nodes.{first_as, laid_as}
 use Rattle.checker.proofs.Heads.{head_no, head_known, head_by}
-use borrow.Author.Rules.{rules}
 use Rattle.checker.proofs.node.headed.Goals as goal
 
 pub returns-then-not-first_at : goal.returns-then-not-first_at

@@ -1,14 +1,9 @@
 use native.Mathlib.Omega.{arith}
 use mathlib.Core.List.{[]}
-use Prim.Native.Nat.{◌-◌, ◌+◌, ◌*◌, ◌<◌, ◌≤◌}
-use mathlib.Core.Path.{◌≡◌, refl, sym, ap, subst, ◌∙◌}
+use mathlib.Core.Path.{sym, ◌∙◌}
 use borrow.Author.Tests.{not-true, not-false}
-use Rattle.checker.proofs.Nodes.{left_no, left_by, is_t, not_t, first_as, left_as, laid_as, text_as_lem, opened_as, node_piece, node_lost, node_by, family_linked}
-use Rattle.checker.proofs.Heads.{head_no, head_known, head_by}
-use Rattle.checker.proofs.Growns.{grown_none, grown_left_no, left_known, grown_by}
-use Rattle.checker.proofs.TextHeads.{template_first_no, template_flag_no, template_mode, template_by, heredoc_first_no, heredoc_no, heredoc_flag_no, heredoc_mode, heredoc_by, string_kids, string_by}
-use Rattle.checker.proofs.Lays.{chain_le, next_of}
-use borrow.Author.Rules.{rules}
+use Rattle.checker.proofs.Nodes.{first_as, opened_as}
+use Rattle.checker.proofs.TextHeads.{heredoc_first_no, heredoc_no, heredoc_flag_no, heredoc_mode, heredoc_by}
 use Rattle.checker.proofs.node.heredoc.Goals as goal
 
 pub returns-then-not-first_at : goal.returns-then-not-first_at

@@ -1,10 +1,8 @@
 use native.Mathlib.Omega.{arith}
-use mathlib.Core.Path.{◌≡◌, refl, sym, ap, subst, ◌∙◌}
+use mathlib.Core.Path.{sym, ◌∙◌}
 use borrow.Author.Tests.{not-true, not-false}
-use Prim.Native.Nat.{◌-◌, ◌+◌, ◌*◌, ◌<◌, ◌≤◌}
 use Rattle.checker.proofs.Precedences.{left_yes, left_none}
 use Rattle.checker.proofs.Nodes.{left_no, left_by, left_to_no, left_to, not_t}
-use borrow.Author.Rules.{rules}
 use Rattle.checker.proofs.node.left_at.Goals as goal
 
 pub returns-then-start-table : goal.returns-then-start-table

@@ -1,8 +1,7 @@
 use native.Mathlib.Omega.{arith}
 use mathlib.Core.List.{[]}
-use mathlib.Core.Path.{◌≡◌, refl}
+use mathlib.Core.Path.{refl}
 use Rattle.checker.proofs.Nodes.{node_single, node_piece, node_lost, node_by, family_linked}
-use borrow.Author.Rules.{rules}
 use Rattle.checker.proofs.node.node.Goals as goal
 
 pub single-x-requires : goal.single-x-requires

@@ -1,5 +1,5 @@
 use native.Mathlib.Omega.{arith}
-use mathlib.Core.Path.{◌≡◌, refl, sym, ap, ◌∙◌}
+use mathlib.Core.Path.{refl, sym, ap, ◌∙◌}
 use mathlib.Core.Logic.{inl}
 use Rattle.checker.specs.Leaf.{is_grown}
 use Rattle.checker.proofs.Callings.{first_always}
@@ -7,7 +7,6 @@ use Rattle.checker.proofs.Heads.{head_by}
 use Rattle.checker.proofs.Nodes.{laid_as}
 use Rattle.checker.proofs.Looks.{no_text}
 use Rattle.checker.proofs.TextHeads.{string_kids, string_by}
-use borrow.Author.Rules.{rules}
 use Rattle.checker.proofs.node.ruled.Goals as goal
 
 pub item-requires : goal.item-requires

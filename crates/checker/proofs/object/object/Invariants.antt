@@ -1,15 +1,10 @@
-use native.Mathlib.Omega.{arith}
 use Prim.Native.Nat.{◌-◌}
-use mathlib.Core.Path.{◌≡◌, refl, ◌∙◌}
-use borrow.Author.Tests.{not-true, not-false}
-use borrow.Author.Rules.{rules}
+use mathlib.Core.Path.{◌≡◌}
 use lib.ListN.{length}
 use Rattle.checker.specs.Lay.{Laying}
 use Rattle.checker.specs.Lone.{Known}
 use Rattle.checker.specs.Told.{Telling}
-use Rattle.checker.proofs.Tolds.{told_on}
-use Rattle.checker.proofs.Lones.{known_nothing}
-use Rattle.checker.proofs.Objects.{Ahead, object_deep, object_no, object_gap_no, object_empty, object_first, ahead_passing, ahead_long, object_item, object_item_no, object_up, object_more, object_open, object_end}
+use Rattle.checker.proofs.Objects.{Ahead}
 use Rattle.checker.proofs.object.object.Given as goal
 
 abbrev pub invariant-loop-t : goal.invariant-loop-t

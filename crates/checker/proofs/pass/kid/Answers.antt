@@ -1,9 +1,6 @@
 use native.Mathlib.Omega.{arith}
-use Prim.Native.Nat.{◌-◌, ◌+◌, ◌*◌, ◌<◌, ◌≤◌}
-use mathlib.Core.Path.{◌≡◌, refl, sym, ap, subst, ◌∙◌}
 use borrow.Author.Tests.{not-true, not-false}
 use Rattle.checker.proofs.Passes.{kid_none, kid_not, kid_yes}
-use borrow.Author.Rules.{rules}
 use Rattle.checker.proofs.pass.kid.Goals as goal
 
 pub returns-then-j-i : goal.returns-then-j-i

@@ -1,8 +1,7 @@
 use native.Mathlib.Omega.{arith}
-use mathlib.Core.Path.{◌≡◌, sym, ◌∙◌}
+use mathlib.Core.Path.{sym, ◌∙◌}
 use borrow.Author.Tests.{not-true, not-false}
 use Rattle.checker.proofs.Passes.{met_other, met_loose, met_old, met_new}
-use borrow.Author.Rules.{rules}
 use Rattle.checker.proofs.pass.meet.Goals as goal
 
 pub returns-then-want-ne-ITEM : goal.returns-then-want-ne-ITEM

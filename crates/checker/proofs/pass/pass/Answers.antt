@@ -1,8 +1,7 @@
 use native.Mathlib.Omega.{arith}
-use mathlib.Core.Path.{◌≡◌, refl, sym, ◌∙◌}
+use mathlib.Core.Path.{refl, sym}
 use borrow.Author.Tests.{not-true, not-false}
 use Rattle.checker.proofs.Passes.{meet_key, meet_told, pass_no, pass_suits, pass_met, pass_yes}
-use borrow.Author.Rules.{rules}
 use Rattle.checker.proofs.pass.pass.Goals as goal
 
 pub returns-then-j-i : goal.returns-then-j-i

@@ -1,11 +1,10 @@
 use native.Mathlib.Omega.{arith}
 use borrow.Author.Tests.{not-true, not-false}
-use mathlib.Core.Path.{◌≡◌, sym, ◌∙◌}
+use mathlib.Core.Path.{sym, ◌∙◌}
 use Rattle.checker.specs.Rows.{row_at}
 use Rattle.checker.proofs.Programs.{sits_in, seat_tight}
 use Rattle.checker.proofs.Precedences.{right_yes, right_no}
 use Rattle.checker.proofs.Passes.{suits_no, suits_by}
-use borrow.Author.Rules.{rules}
 use Rattle.checker.proofs.pass.suits.Goals as goal
 
 pub returns-then-start-at : goal.returns-then-start-at

@@ -1,7 +1,6 @@
 use mathlib.Core.Path.{sym, ap, ◌∙◌}
 use Rattle.checker.specs.Program.{begin_in}
 use Rattle.checker.proofs.Programs.{begin_rest}
-use borrow.Author.Rules.{rules}
 use Rattle.checker.proofs.program.begin.Goals as goal
 
 pub returns-in-12 : goal.returns-in-12

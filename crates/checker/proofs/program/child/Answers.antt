@@ -1,5 +1,4 @@
 use Rattle.checker.proofs.Programs.{child_key, child_value, child_term, child_entry, child_shared}
-use borrow.Author.Rules.{rules}
 use Rattle.checker.proofs.program.child.Goals as goal
 
 pub returns-in-2 : goal.returns-in-2

@@ -1,5 +1,4 @@
 use Rattle.checker.proofs.Programs.{sits_in}
-use borrow.Author.Rules.{rules}
 use Rattle.checker.proofs.program.fits.Goals as goal
 
 pub returns : goal.returns

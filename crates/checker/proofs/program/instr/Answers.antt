@@ -1,7 +1,6 @@
 use mathlib.Core.Path.{refl}
 use native.Mathlib.Omega.{arith}
 use Rattle.checker.proofs.Programs.{instr_low, instr_own}
-use borrow.Author.Rules.{rules}
 use Rattle.checker.proofs.program.instr.Goals as goal
 
 pub returns-then-pc-lt228 : goal.returns-then-pc-lt228

@@ -1,5 +1,4 @@
 use Rattle.checker.proofs.Programs.{shared_low, shared_high}
-use borrow.Author.Rules.{rules}
 use Rattle.checker.proofs.program.shared.Goals as goal
 
 pub returns-then-c-lt-CONDITION : goal.returns-then-c-lt-CONDITION

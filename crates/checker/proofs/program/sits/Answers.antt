@@ -1,5 +1,3 @@
-use Prim.Native.Nat.{◌≤◌}
-use native.Mathlib.Omega.{arith}
 use Rattle.grammar.proofs.Tables.{Others, behind}
 use Rattle.checker.proofs.Programs.{sits_arm, sits_last}
 use Rattle.checker.proofs.program.sits.Goals as goal

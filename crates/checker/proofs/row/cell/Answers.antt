@@ -1,6 +1,5 @@
 use mathlib.Core.Path.{refl}
 use native.Mathlib.Omega.{arith}
-use borrow.Author.Rules.{rules}
 use Rattle.checker.proofs.row.cell.Goals as goal
 
 pub overflow_cast-result : goal.overflow_cast-result

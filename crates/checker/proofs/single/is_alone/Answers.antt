@@ -1,7 +1,5 @@
-use mathlib.Core.Path.{◌≡◌, refl, sym, ap, subst, ◌∙◌}
-use borrow.Author.Tests.{not-true, not-false}
+use mathlib.Core.Path.{refl, sym, ◌∙◌}
 use Rattle.checker.proofs.Singles.{token_no, token_by}
-use borrow.Author.Rules.{rules}
 use Rattle.checker.proofs.single.is_alone.Goals as goal
 
 pub returns-then-read_as-kind : goal.returns-then-read_as-kind

@@ -1,4 +1,4 @@
-use mathlib.Core.Logic.{◌⊎◌, inl, inr}
+use mathlib.Core.Logic.{inl, inr}
 use borrow.Author.Tests.{leb-true}
 use Rattle.checker.proofs.single.is_token.Goals as goal
 

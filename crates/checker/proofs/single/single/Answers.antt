@@ -1,8 +1,6 @@
-use mathlib.Core.Path.{◌≡◌, refl, sym, ap, subst, ◌∙◌}
-use borrow.Author.Tests.{not-true, not-false}
+use borrow.Author.Tests.{not-false}
 use Rattle.checker.proofs.Singles.{sure}
 use Rattle.checker.proofs.Looks.{look_as, look_none, look_key, look_name, look_dot}
-use borrow.Author.Rules.{rules}
 use Rattle.checker.proofs.single.single.Goals as goal
 
 pub attribute-yes-requires : goal.attribute-yes-requires

@@ -1,5 +1,4 @@
 use Rattle.checker.proofs.Columns.{columns_string, columns_piece, columns_none}
-use borrow.Author.Rules.{rules}
 use Rattle.checker.proofs.text.columns.Goals as goal
 
 pub returns-in-6 : goal.returns-in-6

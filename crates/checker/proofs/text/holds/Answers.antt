@@ -1,8 +1,6 @@
-use Prim.Native.Nat.{◌-◌}
 use native.Mathlib.Omega.{arith}
 use borrow.Author.Tests.{not-true, not-false}
-use Rattle.checker.proofs.Spellings.{Holding, hold_start, hold_no, hold_more, hold_end}
-use borrow.Author.Rules.{rules}
+use Rattle.checker.proofs.Spellings.{hold_start, hold_no, hold_more, hold_end}
 use Rattle.checker.proofs.text.holds.Goals as goal
 
 pub loop-k-init : goal.loop-k-init

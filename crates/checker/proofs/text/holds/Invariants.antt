@@ -1,8 +1,5 @@
 use Prim.Native.Nat.{◌-◌}
-use native.Mathlib.Omega.{arith}
-use borrow.Author.Tests.{not-true, not-false}
-use Rattle.checker.proofs.Spellings.{Holding, hold_start, hold_no, hold_more, hold_end}
-use borrow.Author.Rules.{rules}
+use Rattle.checker.proofs.Spellings.{Holding}
 use Rattle.checker.proofs.text.holds.Given as goal
 
 abbrev pub invariant-loop-k : goal.invariant-loop-k

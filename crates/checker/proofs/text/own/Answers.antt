@@ -1,5 +1,4 @@
 use Rattle.checker.proofs.Columns.{plain_first, plain_not, text_short, text_long}
-use borrow.Author.Rules.{rules}
 use Rattle.checker.proofs.text.own.Goals as goal
 
 pub returns-then-from-a : goal.returns-then-from-a

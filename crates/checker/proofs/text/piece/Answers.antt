@@ -1,5 +1,4 @@
 use Rattle.checker.proofs.Tellings.{piece_dollar, piece_empty, piece_short, piece_told}
-use borrow.Author.Rules.{rules}
 use Rattle.checker.proofs.text.piece.Goals as goal
 
 pub returns-then-two_at : goal.returns-then-two_at

@@ -1,8 +1,6 @@
-use Prim.Native.Nat.{◌-◌}
 use native.Mathlib.Omega.{arith}
 use borrow.Author.Tests.{not-true, not-false}
-use Rattle.checker.proofs.Spellings.{Along, along_start, along_end, along_none, along_no, along_more, along_room}
-use borrow.Author.Rules.{rules}
+use Rattle.checker.proofs.Spellings.{along_start, along_end, along_none, along_no, along_more, along_room}
 use Rattle.checker.proofs.text.spells.Goals as goal
 
 pub loop-i-init : goal.loop-i-init

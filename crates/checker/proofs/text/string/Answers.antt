@@ -1,6 +1,5 @@
 use borrow.Author.Tests.{not-true, not-false}
 use Rattle.checker.proofs.Strings.{string_bare, string_open, string_short, string_told}
-use borrow.Author.Rules.{rules}
 use Rattle.checker.proofs.text.string.Goals as goal
 
 pub returns-then-not-one_at : goal.returns-then-not-one_at

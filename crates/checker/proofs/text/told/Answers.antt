@@ -1,6 +1,5 @@
 use borrow.Author.Tests.{not-true, not-false}
 use Rattle.checker.proofs.Tellings.{told_plain, told_unset, told_long, told_spelt}
-use borrow.Author.Rules.{rules}
 use Rattle.checker.proofs.text.told.Goals as goal
 
 pub returns-then-not-t : goal.returns-then-not-t

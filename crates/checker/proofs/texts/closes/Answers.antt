@@ -1,9 +1,6 @@
-use Prim.Native.Nat.{◌-◌, ◌+◌, ◌*◌, ◌<◌, ◌≤◌}
-use mathlib.Core.Path.{◌≡◌, refl, sym, ap, subst, ◌∙◌}
-use borrow.Author.Tests.{not-true, not-false}
+use mathlib.Core.Path.{refl}
 use Rattle.grammar.specs.MoveLaws.{no_to}
 use Rattle.checker.proofs.Strands.{closes_quote, closes_never, closes_line, closes_as_lem}
-use borrow.Author.Rules.{rules}
 use Rattle.checker.proofs.texts.closes.Goals as goal
 
 pub returns-in-Quote : goal.returns-in-Quote

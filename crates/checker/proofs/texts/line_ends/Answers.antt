@@ -1,8 +1,5 @@
-use Prim.Native.Nat.{◌-◌, ◌+◌, ◌*◌, ◌<◌, ◌≤◌}
-use mathlib.Core.Path.{◌≡◌, refl, sym, ap, subst, ◌∙◌}
-use borrow.Author.Tests.{not-true, not-false}
+use mathlib.Core.Path.{sym, ◌∙◌}
 use Rattle.checker.proofs.Strands.{line_closes, line_text, line_foreign}
-use borrow.Author.Rules.{rules}
 use Rattle.checker.proofs.texts.line_ends.Goals as goal
 
 pub returns-in-Text : goal.returns-in-Text

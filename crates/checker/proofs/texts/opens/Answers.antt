@@ -1,8 +1,6 @@
-use Prim.Native.Nat.{◌-◌, ◌+◌, ◌*◌, ◌<◌, ◌≤◌}
-use mathlib.Core.Path.{◌≡◌, refl, sym, ap, subst, ◌∙◌}
-use borrow.Author.Tests.{not-true, not-false}
+use mathlib.Core.Path.{sym, ◌∙◌}
+use borrow.Author.Tests.{not-true}
 use Rattle.checker.proofs.Strands.{opens_by, opens_text, opens_no}
-use borrow.Author.Rules.{rules}
 use Rattle.checker.proofs.texts.opens.Goals as goal
 
 pub returns-then-not-two_at : goal.returns-then-not-two_at

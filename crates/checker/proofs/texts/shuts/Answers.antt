@@ -1,8 +1,4 @@
-use Prim.Native.Nat.{◌-◌, ◌+◌, ◌*◌, ◌<◌, ◌≤◌}
-use mathlib.Core.Path.{◌≡◌, refl, sym, ap, subst, ◌∙◌}
-use borrow.Author.Tests.{not-true, not-false}
 use Rattle.checker.proofs.Strands.{shuts_text, shuts_by}
-use borrow.Author.Rules.{rules}
 use Rattle.checker.proofs.texts.shuts.Goals as goal
 
 pub returns-then-r-q : goal.returns-then-r-q

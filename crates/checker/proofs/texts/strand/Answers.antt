@@ -1,9 +1,6 @@
 use native.Mathlib.Omega.{arith}
-use Prim.Native.Nat.{◌-◌, ◌+◌, ◌*◌, ◌<◌, ◌≤◌}
-use mathlib.Core.Path.{◌≡◌, refl, sym, ap, subst, ◌∙◌}
-use borrow.Author.Tests.{not-true, not-false}
+use mathlib.Core.Path.{sym, ◌∙◌}
 use Rattle.checker.proofs.Strands.{strand_no, strand_piece, strand_dollar, strand_other}
-use borrow.Author.Rules.{rules}
 use Rattle.checker.proofs.texts.strand.Goals as goal
 
 pub returns-then-start-q : goal.returns-then-start-q

@@ -1,12 +1,7 @@
 use native.Mathlib.Omega.{arith}
-use borrow.Author.Rules.{rules}
-use Prim.Native.Nat.{◌-◌, ◌+◌, ◌*◌, ◌<◌, ◌≤◌}
-use mathlib.Core.Path.{◌≡◌, refl, sym, ap, subst, ◌∙◌}
 use borrow.Author.Tests.{not-true, not-false}
-use lib.ListN.{length, set}
-use Rattle.checker.specs.Texts.{Texting}
 use Rattle.checker.proofs.Lays.{chain_le, next_of}
-use Rattle.checker.proofs.TextTurns.{Turn, turn_start, do_shut, do_strand_no, do_strand}
+use Rattle.checker.proofs.TextTurns.{turn_start, do_shut, do_strand_no, do_strand}
 use Rattle.checker.proofs.texts.texts.Goals as goal
 
 pub loop-j-init : goal.loop-j-init

@@ -1,8 +1,7 @@
 use native.Mathlib.Omega.{arith}
-use mathlib.Core.Path.{◌≡◌, ◌∙◌}
+use mathlib.Core.Path.{◌∙◌}
 use Rattle.lexis.specs.RunLaws.{default}
 use Rattle.checker.proofs.Tolds.{keyed_no, keyed_by}
-use borrow.Author.Rules.{rules}
 use Rattle.checker.proofs.told.keyed.Goals as goal
 
 pub returns-then-table-i-ne-KEY : goal.returns-then-table-i-ne-KEY

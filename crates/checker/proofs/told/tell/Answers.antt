@@ -1,8 +1,7 @@
 use native.Mathlib.Omega.{arith}
-use mathlib.Core.Path.{◌≡◌, sym, ◌∙◌}
+use mathlib.Core.Path.{sym, ◌∙◌}
 use borrow.Author.Tests.{not-false}
 use Rattle.checker.proofs.Tolds.{tells_none, tells_one}
-use borrow.Author.Rules.{rules}
 use Rattle.checker.proofs.told.tell.Goals as goal
 
 pub returns-then-not-alone : goal.returns-then-not-alone

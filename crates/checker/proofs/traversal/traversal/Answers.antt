@@ -1,12 +1,9 @@
-use Prim.Native.Nat.{◌-◌}
 use mathlib.Core.Path.{sym, ◌∙◌}
 use native.Mathlib.Omega.{arith}
 use borrow.Author.Tests.{not-true, not-false}
-use Rattle.grammar.specs.Layouts.{traversal_lay}
 use Rattle.checker.proofs.Enclosures.{seated}
-use Rattle.checker.proofs.Onwards.{Onward, direct_up}
-use Rattle.checker.proofs.Traversals.{parts_lay, first_gap_no, first_no, first_on, part_no, last_gap, last_part, next_part}
-use borrow.Author.Rules.{rules}
+use Rattle.checker.proofs.Onwards.{direct_up}
+use Rattle.checker.proofs.Traversals.{first_gap_no, first_no, first_on, part_no, last_gap, last_part, next_part}
 use Rattle.checker.proofs.traversal.traversal.Goals as goal
 
 pub returns-then-w-ne0 : goal.returns-then-w-ne0
