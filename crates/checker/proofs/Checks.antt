@@ -11,7 +11,7 @@ use Rattle.lexis.specs.RunLaws.{clash}
 use Rattle.engine.specs.Base.{has}
 use Rattle.grammar.specs.Moves.{an_expression}
 use Rattle.grammar.specs.Published.{kinds_of, Holds}
-use Rattle.grammar.specs.DemandLaws.{formed_on}
+use Rattle.grammar.proofs.DemandLaws.{formed_on}
 use Rattle.checker.specs.Rows.{row_at}
 use Rattle.checker.specs.Leaf.{kinds_by}
 use Rattle.checker.specs.Check.{Rooted, Checks}

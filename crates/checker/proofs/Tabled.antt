@@ -14,7 +14,7 @@ use Rattle.grammar.specs.Moves.{an_expression}
 use Rattle.grammar.specs.Table.{Record, numbers}
 use Rattle.grammar.specs.Published.{depth, kinds_of, Rule, used, Texted, row_of, rows_in, Holds}
 use Rattle.grammar.specs.RuleTable.{parts_holds, holds_parts}
-use Rattle.grammar.specs.OrderLaws.{holds_ordered}
+use Rattle.grammar.proofs.OrderLaws.{holds_ordered}
 use Rattle.checker.specs.Rows.{row_at, rows}
 
 -- ---- a list of rows and its numbers

@@ -3,7 +3,7 @@
 use Rattle.std.specs.Prelude.{ℕ, ◌≤◌, ◌≡◌, refl, List, Bool, true, false, ◌↔◌, length}
 use Rattle.grammar.specs.Published.{Holds}
 use Rattle.grammar.specs.Demands.{Gives}
-use Rattle.grammar.specs.DemandLaws.{demand_3}
+use Rattle.grammar.proofs.DemandLaws.{demand_3}
 use Rattle.checker.specs.Check.{Checks}
 
 pub says_yes : (s table text : List ℕ) (r : Bool) → Checks s table text r → (nodes bytes : ℕ) → length s ≤ nodes → length s ≤ bytes → (r ≡ true) ↔ Gives s nodes bytes table text

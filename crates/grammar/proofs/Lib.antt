@@ -7,3 +7,14 @@ pub mod Callings
 pub mod Heads
 pub mod Lasts
 pub mod Keys
+pub mod Sane
+pub mod Checked
+pub mod AnswerLaws
+pub mod Bounds
+pub mod PrecedenceLaws
+pub mod Theorems
+pub mod DemandLaws
+pub mod OrderLaws
+pub mod FitLaws
+pub mod RuleShown
+pub mod RowLaws

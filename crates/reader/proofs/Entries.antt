@@ -17,7 +17,7 @@ use Rattle.index.specs.IndexLaws.{starts_kept, indexed_kept}
 use Rattle.grammar.specs.Moves.{Under, to, no, skip, an_expression, an_item, gap, mark, fresh, line, walk, atom}
 use Rattle.grammar.specs.Layouts.{key, value, same_line, Layout, layouts, layout_of, item_lay}
 use Rattle.grammar.specs.Hcl.{hcl, under, bare, pick_at}
-use Rattle.grammar.specs.Sane.{sane}
+use Rattle.grammar.proofs.Sane.{sane}
 use Rattle.grammar.specs.Table.{record_of}
 use Rattle.reader.specs.declared.Step.{Step}
 use Rattle.reader.specs.Buffer.{put_at}

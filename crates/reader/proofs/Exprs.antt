@@ -21,7 +21,7 @@ use Rattle.grammar.specs.Kinds.{tight_of}
 use Rattle.grammar.specs.Moves.{Want, Under, an_expression, no, when, unexpected, refusal}
 use Rattle.grammar.specs.Layouts.{Layout, layout_of}
 use Rattle.grammar.specs.Hcl.{hcl, pick_at, follow_at, under}
-use Rattle.grammar.specs.Sane.{sane}
+use Rattle.grammar.proofs.Sane.{sane}
 use Rattle.grammar.specs.Wants.{want_in}
 use Rattle.grammar.specs.Said.{kind_of, TermAt, Follow, went_of}
 use Rattle.grammar.specs.PickLaws.{Following, kind_some, pick_none, follow_kind, followed, followers}

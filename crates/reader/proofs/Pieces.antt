@@ -27,7 +27,7 @@ use Rattle.grammar.specs.Moves as moves
 use Rattle.grammar.specs.MoveLaws.{walk_within}
 use Rattle.grammar.specs.Layouts.{Layout, layout_of, text_lay}
 use Rattle.grammar.specs.Hcl.{hcl, under, pick_at}
-use Rattle.grammar.specs.Sane.{sane}
+use Rattle.grammar.proofs.Sane.{sane}
 use Rattle.grammar.specs.Table.{record_of}
 use Rattle.reader.specs.Buffer.{put_at}
 use Rattle.reader.specs.Said.{step_of, Asked, Closing, Climbs, Good, Kept, Makes, made_as, Made, SaidMade, Any, under_any, any_before, One, Texting}

@@ -17,7 +17,7 @@ use Rattle.engine.specs.Way.{mid, way_start, way_fin, way_move, way_yes, way_no,
 use Rattle.grammar.specs.Moves.{a_piece, Under, place, more, round, Move}
 use Rattle.grammar.specs.Layouts.{Class, piecewise, Layout, layouts, piece_lay}
 use Rattle.grammar.specs.Hcl.{hcl, under, pick_at}
-use Rattle.grammar.specs.Sane.{sane}
+use Rattle.grammar.proofs.Sane.{sane}
 use Rattle.grammar.specs.Table.{record_of, span, own, records_of, records_ofs, texts_of, texts_ofs, total}
 use Rattle.reader.specs.Buffer.{write}
 use Rattle.reader.specs.Text.{flag_of, Pieced}

@@ -22,9 +22,9 @@ use Rattle.grammar.specs.Hcl.{hcl}
 use Rattle.grammar.specs.Table.{Record, table_of, texts_of, total, words_of, flatten, numbers}
 use Rattle.grammar.specs.Answer.{root, leftover, whole, pace, source, reading, formed_as, long_as, outcome, answer, room_as, answer_as, answer_of}
 use Rattle.grammar.specs.Answer as grammar-answer
-use Rattle.grammar.specs.Bounds.{flatten_long, reading_small}
-use Rattle.grammar.specs.Checked.{checked}
-use Rattle.grammar.specs.RowLaws.{length_records}
+use Rattle.grammar.proofs.Bounds.{flatten_long, reading_small}
+use Rattle.grammar.proofs.Checked.{checked}
+use Rattle.grammar.proofs.RowLaws.{length_records}
 use Rattle.grammar.specs.Said.{Moved, went_of}
 use Rattle.reader.specs.Buffer.{lay, write, copied}
 use Rattle.reader.specs.Said.{step_of, Climbs, Good, told_as, Said}

@@ -7,11 +7,11 @@ use Rattle.engine.specs.Base.{ok, Tree}
 use Rattle.grammar.specs.Table.{Record, total, flatten, numbers, texts_of, table_of}
 use Rattle.grammar.specs.Answer.{outcome}
 use Rattle.grammar.specs.Answer as grammar
-use Rattle.grammar.specs.Bounds.{flatten_long}
-use Rattle.grammar.specs.RowLaws.{length_records}
+use Rattle.grammar.proofs.Bounds.{flatten_long}
+use Rattle.grammar.proofs.RowLaws.{length_records}
 use Rattle.grammar.specs.Published.{rows_in}
 use Rattle.grammar.specs.Demands.{Derives}
-use Rattle.grammar.specs.DemandLaws.{derives_reading, fair_is, accepted_when, true_counts}
+use Rattle.grammar.proofs.DemandLaws.{derives_reading, fair_is, accepted_when, true_counts}
 use Rattle.reader.specs.Buffer.{put_at, put_as, lay, write}
 use Rattle.reader.specs.Node.{is_text, text_of_node, node_has_text}
 use Rattle.reader.specs.NodeTexts.{read_texts}

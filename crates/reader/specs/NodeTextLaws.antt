@@ -7,8 +7,8 @@ use Rattle.engine.specs.Base.{Tree, Trees, node, nil, cons, sizes}
 use Rattle.grammar.specs.Table.{Record, own, own_as, total, flatten, span_as, span, record_of, texts_of, texts_ofs, records_of, records_ofs, numbers, table_of, words_of}
 use Rattle.grammar.specs.Published.{rows_in}
 use Rattle.grammar.specs.Demands.{Derives}
-use Rattle.grammar.specs.OrderLaws.{Each, each_split, each_at}
-use Rattle.grammar.specs.FitLaws.{Worded, Fits, fits_source, reading_fits}
+use Rattle.grammar.proofs.OrderLaws.{Each, each_split, each_at}
+use Rattle.grammar.proofs.FitLaws.{Worded, Fits, fits_source, reading_fits}
 use Rattle.reader.specs.Node.{is_text, part, text_as, text_in, has_as, has_text, number_at, text_of_node, node_has_text}
 use Rattle.reader.specs.NodeTexts.{read_as, read_text, read_texts, read_textss, shown}
 

@@ -8,9 +8,9 @@ use Rattle.engine.specs.Source.{reading, Holds, blank}
 use Rattle.engine.specs.Levels.{level_in, Operands}
 use Rattle.engine.specs.Theorem.{agree, only_one, answered, precedence}
 use Rattle.grammar.specs.Answer.{source}
-use Rattle.grammar.specs.Checked.{checked}
+use Rattle.grammar.proofs.Checked.{checked}
 use Rattle.grammar.specs.Precedence.{thirteen, Binds}
-use Rattle.grammar.specs.PrecedenceLaws.{graded, pair_binds}
+use Rattle.grammar.proofs.PrecedenceLaws.{graded, pair_binds}
 
 module _ (s : List ℕ) where
   -- 1. The rule holds at every node of a table exactly when reading the source gives that very table.

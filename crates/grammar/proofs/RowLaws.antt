@@ -10,7 +10,7 @@ use Rattle.engine.specs.Rule.{Every, every, Everys, enil, econs, Kids, knil, kco
 use Rattle.engine.specs.FlatLaws.{At, at_split, at_join, at_list}
 use Rattle.grammar.specs.Table.{Record, own, own_as, total, flatten, span, span_as, record_of, texts_of, texts_ofs, records_of, records_ofs}
 use Rattle.grammar.specs.BoundLaws.{total_append}
-use Rattle.grammar.specs.Bounds.{flatten_long}
+use Rattle.grammar.proofs.Bounds.{flatten_long}
 use Rattle.grammar.specs.RuleTable.{kids_le}
 use Rattle.grammar.specs.Published.{Depth, Rule, taken, used, Texted, row_of, rec_in, Node, no_row, rows_in}
 

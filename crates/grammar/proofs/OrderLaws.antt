@@ -9,11 +9,11 @@ use Rattle.grammar.specs.Hcl.{hcl}
 use Rattle.grammar.specs.Table.{Record, total, texts_of, records_of, records_ofs}
 use Rattle.grammar.specs.Answer.{pace, root}
 use Rattle.grammar.specs.Going.{going}
-use Rattle.grammar.specs.Sane.{sane}
+use Rattle.grammar.proofs.Sane.{sane}
 use Rattle.grammar.specs.BoundLaws.{Of, every_bound}
 use Rattle.grammar.specs.Published.{rows_in, Holds}
 use Rattle.grammar.specs.Demands.{Derives}
-use Rattle.grammar.specs.DemandLaws.{holds_found}
+use Rattle.grammar.proofs.DemandLaws.{holds_found}
 
 -- ---- a fact of every record
 

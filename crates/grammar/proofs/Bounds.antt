@@ -14,7 +14,7 @@ use Rattle.grammar.specs.Hcl.{hcl}
 use Rattle.grammar.specs.Table.{total, flatten, texts_of, words_of}
 use Rattle.grammar.specs.Answer.{pace, root, whole, reading}
 use Rattle.grammar.specs.Going.{going}
-use Rattle.grammar.specs.Sane.{sane}
+use Rattle.grammar.proofs.Sane.{sane}
 use Rattle.grammar.specs.BoundLaws.{Of, Bound, every_bound}
 
 -- the texts one after the other are as long as they are together

@@ -5,7 +5,7 @@ use Rattle.engine.specs.Base.{Outcome, ok, halt, stuck, Tree}
 use Rattle.grammar.specs.Answer.{Answer, answer_of, outcome}
 use Rattle.grammar.specs.Examples.{Shown, shown_as, shown, Example, examples, All, right}
 use Rattle.grammar.specs.Published.{Holds}
-use Rattle.grammar.specs.DemandLaws.{accepted_when, fair_is, derives_reading, demand_3_own, demand_3_one}
+use Rattle.grammar.proofs.DemandLaws.{accepted_when, fair_is, derives_reading, demand_3_own, demand_3_one}
 
 answer_shown : (s : List ℕ) (o : Outcome ℕ (Tree ℕ)) → (shown_as s o).answer ≡ answer_of s 65535 65535
 answer_shown s (ok t) = refl

@@ -10,7 +10,7 @@ use Rattle.engine.specs.Theorem.{answered}
 use Rattle.grammar.specs.Kinds.{most}
 use Rattle.grammar.specs.Hcl.{hcl}
 use Rattle.grammar.specs.Answer.{pace, root, source, whole, reading, formed_as, long_as, outcome}
-use Rattle.grammar.specs.Checked.{checked}
+use Rattle.grammar.proofs.Checked.{checked}
 
 -- the table of a tree that was read
 abbrev pub rows_of : Outcome ℕ (Tree ℕ) → Outcome ℕ (List (Row ℕ))

@@ -12,13 +12,13 @@ use Rattle.grammar.specs.Hcl.{hcl}
 use Rattle.grammar.specs.Table.{Record, own, total, span, record_of, texts_of, texts_ofs, records_of, records_ofs, table_of, words_of}
 use Rattle.grammar.specs.KindLaws.{follow_all}
 use Rattle.grammar.specs.BoundLaws.{total_append, one_atom, quote_is, own_name}
-use Rattle.grammar.specs.Bounds.{flatten_long}
+use Rattle.grammar.proofs.Bounds.{flatten_long}
 use Rattle.grammar.specs.KeyLaws.{key_is, string_end}
 use Rattle.grammar.specs.NarrowLaws.{Narrows, rows_narrow}
 use Rattle.grammar.specs.Published.{rows_in, Holds}
 use Rattle.grammar.specs.Demands.{Derives}
-use Rattle.grammar.specs.DemandLaws.{small, holds_found}
-use Rattle.grammar.specs.OrderLaws.{Each, each_join, each_at, tree_ordered, derived_every, derived_start}
+use Rattle.grammar.proofs.DemandLaws.{small, holds_found}
+use Rattle.grammar.proofs.OrderLaws.{Each, each_join, each_at, tree_ordered, derived_every, derived_start}
 
 -- "Kinds 6 and 9 have text"
 abbrev pub Worded : ℕ → Type 0

@@ -25,18 +25,18 @@ use Rattle.grammar.specs.Moves.{an_expression}
 use Rattle.grammar.specs.Hcl.{hcl}
 use Rattle.grammar.specs.Table.{Record, total, texts_of, records_of, numbers, table_of, words_of}
 use Rattle.grammar.specs.Answer.{Answer, answer, answer_of, answer_as, root, leftover, source, pace, whole, reading, outcome}
-use Rattle.grammar.specs.AnswerLaws.{reading_rows, rows_of}
+use Rattle.grammar.proofs.AnswerLaws.{reading_rows, rows_of}
 use Rattle.grammar.specs.Going.{going}
-use Rattle.grammar.specs.Sane.{sane}
-use Rattle.grammar.specs.Checked.{checked, quiet}
+use Rattle.grammar.proofs.Sane.{sane}
+use Rattle.grammar.proofs.Checked.{checked, quiet}
 use Rattle.grammar.specs.Precedence.{thirteen, Binds}
-use Rattle.grammar.specs.Theorems.{binds}
-use Rattle.grammar.specs.Bounds.{flatten_long, reading_small}
+use Rattle.grammar.proofs.Theorems.{binds}
+use Rattle.grammar.proofs.Bounds.{flatten_long, reading_small}
 use Rattle.grammar.specs.NarrowLaws.{Narrows, rows_narrow, numbers_narrow, narrow_most}
 use Rattle.grammar.specs.RefusalLaws.{Met, fail_met, left_met}
 use Rattle.grammar.specs.Published.{depth, kinds_of, used, row_of, no_row, rows_in, Holds}
 use Rattle.grammar.specs.PostLaws.{every_post, post_every}
-use Rattle.grammar.specs.RowLaws.{length_records, plain_rows, plain_row, rows_tree, Listed, tree_rows}
+use Rattle.grammar.proofs.RowLaws.{length_records, plain_rows, plain_row, rows_tree, Listed, tree_rows}
 use Rattle.grammar.specs.Demands.{Fair, Derives, nodes_of, bytes_of, Answers, long, unformed, refused, unread, slots, words, accepted, OneReading, OneAnswer, Accepted, AcceptedWhen, TrueCounts, Gives, RuleMeetsReading, SevenEach, OwnTable, OneTable, Precedence, MoreRoom, AnyRoom, NoMoreThanBytes, SixteenBits}
 
 -- ---- the first bad sequence is where what stands before it is well formed and no sequence stands

@@ -11,7 +11,7 @@ use Rattle.grammar.specs.Answer.{root, source}
 use Rattle.grammar.specs.StillLaws.{still_at, still_end}
 use Rattle.grammar.specs.Going.{going}
 use Rattle.grammar.specs.QuietLaws.{follow_none}
-use Rattle.grammar.specs.Sane.{sane}
+use Rattle.grammar.proofs.Sane.{sane}
 
 -- past the source's last byte there is no trivia, and nothing follows
 pub quiet : (s : List ℕ) (e : ℕ) → T (eqb e (length s)) → after (hcl s) root e ≡ 0
