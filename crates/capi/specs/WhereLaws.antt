@@ -1,9 +1,9 @@
 -- The bytes that the three numbers name are the text of the node, and they are there.
-use Rattle.std.specs.Prelude.{ℕ, zero, suc, ◌+◌, ◌*◌, ◌/◌, ◌≤◌, ◌<◌, ◌≡◌, refl, List, [], Bool, true, false, cond, ◌&&◌, length, take, drop, eqb, leb, ltb}
+use Rattle.std.specs.Prelude.{ℕ, ◌+◌, ◌*◌, ◌/◌, ◌≤◌, ◌<◌, ◌≡◌, refl, List, [], Bool, true, false, cond, length, take, drop, eqb, ltb}
 use Rattle.std.proofs.Common.{sym, ap, subst, ◌∙◌, arith, ltb-true, leb-true, eqb-true, ne_eqb}
 use Rattle.lexis.specs.RunLaws.{clash}
-use Rattle.reader.specs.Node.{is_text, within, part, number_at, text_as, text_in, has_as, has_text, text_of_node, node_has_text}
-use Rattle.capi.specs.Where.{side_of, from_of, length_of, sided, Stands}
+use Rattle.reader.specs.Node.{is_text, part, number_at, text_as, text_in, has_as, has_text, text_of_node, node_has_text}
+use Rattle.capi.specs.Where.{sided, Stands}
 
 -- a record that has a text is in the table
 inside_as : (t h : Bool) → cond t h false ≡ true → t ≡ true

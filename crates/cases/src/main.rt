@@ -6,9 +6,12 @@
 mod ask;
 mod say;
 
-use libc::STDIN_FILENO;
+use std::io::{self, BufWriter, Read, Write};
 
 const HEAD: usize = 8;
+
+// So many bytes of records at most.
+const RECORDS: u64 = 65536;
 
 // The place that stands for the largest there is.
 const FAR: u8 = 255;
@@ -20,38 +23,36 @@ fn place(k: u8) -> usize {
 }
 
 // Asks one question of a source, at each place.
-fn record(head: &[u8], s: &[u8]) {
+fn record<W: Write>(out: &mut W, head: &[u8], s: &[u8]) -> io::Result<()> {
     let q = say::byte(head, 0);
     let last = say::byte(head, 2);
-    let mut k = say::byte(head, 1);
-    say::first(q);
-    while k <= last {
-        ask::question(q, head, s, place(k));
-        if k == FAR {
-            break;
-        }
-        say::next(k < last);
-        k += 1;
+    say::first(out, q)?;
+    for k in say::byte(head, 1)..=last {
+        ask::question(out, q, head, s, place(k))?;
+        say::next(out, k < last)?;
     }
-    say::line();
+    say::line(out)
 }
 
 // Goes through the records. What is cut off at the end is left out.
-fn records(b: &[u8]) {
+fn records<W: Write>(out: &mut W, b: &[u8]) -> io::Result<()> {
     let mut i = 0;
     while i + HEAD <= b.len() {
         let from = i + HEAD;
         let to = from + say::byte(b, from - 1) as usize;
         if b.len() < to {
-            return;
+            return Ok(());
         }
-        record(&b[i..from], &b[from..to]);
+        record(out, &b[i..from], &b[from..to])?;
         i = to;
     }
+    Ok(())
 }
 
-fn main() {
-    let mut buf = io::large_buffer();
-    let n = io::read_full(STDIN_FILENO, &mut buf);
-    records(&buf[..n]);
+fn main(rt: HostRuntime) -> io::Result<()> {
+    let mut buf = Vec::new(rt.alloc());
+    rt.reader().take(RECORDS).read_to_end(&mut buf)?;
+    let mut out = BufWriter::new(rt.alloc(), io::writer(&rt))?;
+    records(&mut out, &buf)?;
+    out.flush()
 }

@@ -1,5 +1,5 @@
 // Numbers of a record, and the numbers of an answer.
-use libc::STDOUT_FILENO;
+use std::io::{self, Write};
 
 // The byte at k; 0 past the end.
 pub fn byte(b: &[u8], k: usize) -> u8 {
@@ -11,40 +11,34 @@ pub fn number(b: &[u8], k: usize) -> usize {
 }
 
 // The start of a line: the question.
-pub fn first(q: u8) {
-    io::print_decimal(STDOUT_FILENO, q as u64);
-    io::write_all(STDOUT_FILENO, b":");
+pub fn first<W: Write>(out: &mut W, q: u8) -> io::Result<()> {
+    write!(out, "{q}:")
 }
 
 // Between the answers at two places.
-pub fn next(more: bool) {
+pub fn next<W: Write>(out: &mut W, more: bool) -> io::Result<()> {
     if more {
-        io::write_all(STDOUT_FILENO, b",");
+        out.write_all(b",")?;
     }
+    Ok(())
 }
 
-pub fn line() {
-    io::write_all(STDOUT_FILENO, b"\n");
+pub fn line<W: Write>(out: &mut W) -> io::Result<()> {
+    out.write_all(b"\n")
 }
 
-pub fn say(n: usize) {
-    io::write_all(STDOUT_FILENO, b" ");
-    io::print_decimal(STDOUT_FILENO, n as u64);
+pub fn say<W: Write>(out: &mut W, n: usize) -> io::Result<()> {
+    write!(out, " {n}")
 }
 
 // Yes is 1, no is 0.
-pub fn flag(yes: bool) {
-    if yes {
-        say(1);
-    } else {
-        say(0);
-    }
+pub fn flag<W: Write>(out: &mut W, yes: bool) -> io::Result<()> {
+    if yes { say(out, 1) } else { say(out, 0) }
 }
 
-pub fn all(b: &[u8]) {
-    let mut i = 0;
-    while i < b.len() {
-        say(number(b, i));
-        i += 1;
+pub fn all<W: Write>(out: &mut W, b: &[u8]) -> io::Result<()> {
+    for x in b {
+        say(out, *x as usize)?;
     }
+    Ok(())
 }

@@ -5,9 +5,12 @@
 // 16 bytes: how often it comes (two bytes), its length, and its bytes.
 mod make;
 
-use libc::STDIN_FILENO;
+use std::io::{self, BufWriter, Read, Write};
 
 const CASE: usize = 72;
+
+// So many bytes of cases at most.
+const CASES: u64 = 65536;
 
 // One byte more than a source may have.
 const SOURCE: usize = 65536;
@@ -18,27 +21,46 @@ const NODES: usize = 7000;
 const TEXT: usize = 65535;
 
 // Makes the source and reads it, in as much of the room as the case says.
-fn one(case: &[u8], source: &mut [u8], nodes: &mut [u16], text: &mut [u8]) {
+fn one<W: Write>(
+    out: &mut W,
+    case: &[u8],
+    source: &mut [u8],
+    nodes: &mut [u16],
+    text: &mut [u8],
+) -> io::Result<()> {
     let n = make::source(case, source);
     let numbers = make::least(make::numbers(case), nodes.len());
     let bytes = make::least(make::bytes(case), text.len());
-    print::reading(&source[0..n], &mut nodes[0..numbers], &mut text[0..bytes]);
+    print::reading(
+        out,
+        &source[0..n],
+        &mut nodes[0..numbers],
+        &mut text[0..bytes],
+    )?;
+    Ok(())
 }
 
 // What is cut off at the end is left out.
-fn all(cases: &[u8], source: &mut [u8], nodes: &mut [u16], text: &mut [u8]) {
-    let mut i = 0;
-    while i + CASE <= cases.len() {
-        one(&cases[i..i + CASE], source, nodes, text);
-        i += CASE;
+fn all<W: Write>(
+    out: &mut W,
+    cases: &[u8],
+    source: &mut [u8],
+    nodes: &mut [u16],
+    text: &mut [u8],
+) -> io::Result<()> {
+    for case in cases.chunks_exact(CASE) {
+        one(out, case, source, nodes, text)?;
     }
+    Ok(())
 }
 
-fn main() {
-    let mut cases = io::large_buffer();
+fn main(rt: HostRuntime) -> io::Result<()> {
+    let mut cases = Vec::new(rt.alloc());
     let mut source = [0u8; SOURCE];
     let mut nodes = [0u16; NODES];
     let mut text = [0u8; TEXT];
-    let n = io::read_full(STDIN_FILENO, &mut cases);
-    all(&cases[..n], &mut source, &mut nodes, &mut text);
+    rt.reader().take(CASES).read_to_end(&mut cases)?;
+    let mut out = BufWriter::new(rt.alloc(), io::writer(&rt))?;
+    all(&mut out, &cases, &mut source, &mut nodes, &mut text)?;
+    out.flush()
 }

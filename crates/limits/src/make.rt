@@ -49,14 +49,12 @@ fn once(part: &[u8], source: &mut [u8], from: usize) -> usize
 {
     let n = least(number(part, LENGTH), MOST);
     let mut at = from;
-    let mut i = 0;
-    while i < n {
+    for i in 0..n {
         if source.len() <= at {
             return at;
         }
         source[at] = byte(part, BYTES + i);
         at += 1;
-        i += 1;
     }
     at
 }
@@ -66,11 +64,9 @@ fn times(part: &[u8], source: &mut [u8], from: usize) -> usize
     requires { from ≤ length source.old }
     ensures { result ≤ length source.new }
 {
-    let mut left = two(part, 0, 1);
     let mut at = from;
-    while 0 < left {
+    for _ in 0..two(part, 0, 1) {
         at = once(part, source, at);
-        left -= 1;
     }
     at
 }

@@ -1,18 +1,18 @@
 #![tactic(auto)]
-// The lines that the programs print of an answer.
-ghost use Rattle.io.specs.Counts.{IsPrefixLen};
+// The lines that the programs print of an answer, to any writer.
+ghost use Rattle.std.specs.Prelude.{◌≤◌, length, IfOk};
 
-use libc::STDOUT_FILENO;
+use std::io::{self, Write};
 
 // The numbers of a record.
 const WIDTH: usize = 7;
 
-pub fn line() {
-    io::write_all(STDOUT_FILENO, b"\n");
+pub fn line<W: Write>(out: &mut W) -> io::Result<()> {
+    out.write_all(b"\n")
 }
 
-fn number(n: usize) {
-    io::print_decimal(STDOUT_FILENO, n as u64);
+fn number<W: Write>(out: &mut W, n: usize) -> io::Result<()> {
+    write!(out, "{n}")
 }
 
 fn wide(n: u16) -> usize {
@@ -20,64 +20,72 @@ fn wide(n: u16) -> usize {
 }
 
 // A number that is not the first of its line.
-fn next(n: usize) {
-    io::write_all(STDOUT_FILENO, b" ");
-    number(n);
+fn next<W: Write>(out: &mut W, n: usize) -> io::Result<()> {
+    out.write_all(b" ")?;
+    number(out, n)
 }
 
 // The first line: the kind, the place, and how many records and text bytes there are.
-fn answer(kind: u8, place: usize, nodes: usize, text: usize) {
-    number(kind as usize);
-    next(place);
-    next(nodes);
-    next(text);
-    line();
+fn answer<W: Write>(
+    out: &mut W,
+    kind: u8,
+    place: usize,
+    nodes: usize,
+    text: usize,
+) -> io::Result<()> {
+    number(out, kind as usize)?;
+    next(out, place)?;
+    next(out, nodes)?;
+    next(out, text)?;
+    line(out)
 }
 
 // After the number at i of a table: its line goes on, or ends with the record.
-fn after(i: usize) {
+fn after<W: Write>(out: &mut W, i: usize) -> io::Result<()> {
     if i % WIDTH == WIDTH - 1 {
-        line();
+        line(out)
     } else {
-        io::write_all(STDOUT_FILENO, b" ");
+        out.write_all(b" ")
     }
 }
 
 // A line for each record.
-fn records(b: &[u16]) {
-    let mut i = 0;
-    while i < b.len() {
-        number(wide(b[i]));
-        after(i);
-        i += 1;
+fn records<W: Write>(out: &mut W, b: &[u16]) -> io::Result<()> {
+    for (i, n) in b.iter().enumerate() {
+        number(out, wide(*n))?;
+        after(out, i)?;
     }
+    Ok(())
 }
 
 // Two digits.
-fn hex(b: u8) {
-    io::print_hex(STDOUT_FILENO, b as u64, 2);
+fn hex<W: Write>(out: &mut W, b: u8) -> io::Result<()> {
+    write!(out, "{b:02x}")
 }
 
 // Two hexadecimal digits for each byte, and the end of the line.
-pub fn bytes(b: &[u8]) {
-    let mut i = 0;
-    while i < b.len() {
-        hex(b[i]);
-        i += 1;
+pub fn bytes<W: Write>(out: &mut W, b: &[u8]) -> io::Result<()> {
+    for x in b {
+        hex(out, *x)?;
     }
-    line();
+    line(out)
 }
 
 // Reads a source and prints the answer, then a line for each record. Gives back how many text bytes there are; a refusal has none.
-pub fn reading(source: &[u8], nodes: &mut [u16], text: &mut [u8]) -> usize
-    ensures { IsPrefixLen result text.new }
+pub fn reading<W: Write>(
+    out: &mut W,
+    source: &[u8],
+    nodes: &mut [u16],
+    text: &mut [u8],
+) -> io::Result<usize>
+    ensures { IfOk result (λ n. n ≤ length text.new) }
 {
     let a = reader::read(source, nodes, text);
-    answer(a.kind, a.place, a.nodes, a.text);
+    answer(out, a.kind, a.place, a.nodes, a.text)?;
     if a.kind == 0 {
         let end = a.nodes * WIDTH;
-        records(&nodes[0..end]);
-        return a.text;
+        records(out, &nodes[0..end])?;
+        return Ok(a.text);
     }
-    0
+    Ok(0)
 }

@@ -1,7 +1,7 @@
 #![tactic(auto)]
 // Reads triples of a source, a table and a text from standard input, behind their three lengths, and prints for each whether the table and the text are the
 // reading of the source: 1 or 0.
-use libc::{STDIN_FILENO, STDOUT_FILENO};
+use std::io::{self, BufReader, BufWriter, ErrorKind, Read, Write};
 
 // The four bytes of a length, the lowest first.
 const HEAD: usize = 4;
@@ -44,65 +44,83 @@ fn number(bytes: &[u8], i: usize) -> u16 {
     pair(bytes[2 * i], bytes[2 * i + 1])
 }
 
-// Whether standard input fills all of a part.
-fn fills(part: &mut [u8]) -> bool {
-    io::read_full(STDIN_FILENO, part) == part.len()
+// Whether the input fills all of a part.
+fn fills<R: Read>(from: &mut R, part: &mut [u8]) -> io::Result<bool> {
+    match from.read_exact(part) {
+        Ok(()) => Ok(true),
+        Err(e) if e.kind() == ErrorKind::UnexpectedEof => Ok(false),
+        Err(e) => Err(e),
+    }
 }
 
-// The next length of standard input; one that no room has where the input does not hold it.
-fn size() -> usize {
+// The next length of the input; one that no room has where the input does not hold it.
+fn size<R: Read>(from: &mut R) -> io::Result<usize> {
     let mut head = [0u8; HEAD];
-    if !fills(&mut head) {
-        return SOURCE + 1;
+    if !fills(from, &mut head)? {
+        return Ok(SOURCE + 1);
     }
-    length(head)
+    Ok(length(head))
 }
 
 // Puts the bytes of a table together, two to a number.
 fn numbers(bytes: &[u8], table: &mut [u16]) {
-    let mut i = 0;
-    while i < table.len() {
-        table[i] = number(bytes, i);
-        i += 1;
+    for (i, n) in table.iter_mut().enumerate() {
+        *n = number(bytes, i);
     }
 }
 
-fn show(source: &[u8], table: &[u16], text: &[u8]) {
+fn show<W: Write>(out: &mut W, source: &[u8], table: &[u16], text: &[u8]) -> io::Result<()> {
     if checker::check(source, table, text) {
-        io::write_all(STDOUT_FILENO, b"1\n");
+        out.write_all(b"1\n")
     } else {
-        io::write_all(STDOUT_FILENO, b"0\n");
+        out.write_all(b"0\n")
     }
 }
 
 // Reads one triple into parts that have its lengths, and shows it; false where the input does not hold it.
-fn triple(source: &mut [u8], bytes: &mut [u8], table: &mut [u16], text: &mut [u8]) -> bool {
-    if !fills(source) {
-        return false;
+fn triple<R: Read, W: Write>(
+    from: &mut R,
+    out: &mut W,
+    source: &mut [u8],
+    bytes: &mut [u8],
+    table: &mut [u16],
+    text: &mut [u8],
+) -> io::Result<bool> {
+    if !fills(from, source)? {
+        return Ok(false);
     }
-    if !fills(bytes) {
-        return false;
+    if !fills(from, bytes)? {
+        return Ok(false);
     }
-    if !fills(text) {
-        return false;
+    if !fills(from, text)? {
+        return Ok(false);
     }
     numbers(bytes, table);
-    show(source, table, text);
-    true
+    show(out, source, table, text)?;
+    Ok(true)
 }
 
 // Reads the three lengths and then the triple; false where the input does not hold one, or there is no room for it.
-fn one(source: &mut [u8], bytes: &mut [u8], table: &mut [u16], text: &mut [u8]) -> bool {
-    let s = size();
-    let n = size();
-    let t = size();
+fn one<R: Read, W: Write>(
+    from: &mut R,
+    out: &mut W,
+    source: &mut [u8],
+    bytes: &mut [u8],
+    table: &mut [u16],
+    text: &mut [u8],
+) -> io::Result<bool> {
+    let s = size(from)?;
+    let n = size(from)?;
+    let t = size(from)?;
     if source.len() < s || table.len() < n || text.len() < t {
-        return false;
+        return Ok(false);
     }
     if bytes.len() / 2 < n {
-        return false;
+        return Ok(false);
     }
     triple(
+        from,
+        out,
         &mut source[0..s],
         &mut bytes[0..2 * n],
         &mut table[0..n],
@@ -110,17 +128,36 @@ fn one(source: &mut [u8], bytes: &mut [u8], table: &mut [u16], text: &mut [u8]) 
     )
 }
 
-fn all(source: &mut [u8], bytes: &mut [u8], table: &mut [u16], text: &mut [u8]) {
-    let mut left = TRIPLES;
-    while 0 < left && one(source, bytes, table, text) {
-        left -= 1;
+fn all<R: Read, W: Write>(
+    from: &mut R,
+    out: &mut W,
+    source: &mut [u8],
+    bytes: &mut [u8],
+    table: &mut [u16],
+    text: &mut [u8],
+) -> io::Result<()> {
+    for _ in 0..TRIPLES {
+        if !one(from, out, source, bytes, table, text)? {
+            break;
+        }
     }
+    Ok(())
 }
 
-fn main() {
+fn main(rt: HostRuntime) -> io::Result<()> {
     let mut source = [0u8; SOURCE];
     let mut bytes = [0u8; BYTES];
     let mut table = [0u16; TABLE];
     let mut text = [0u8; TEXT];
-    all(&mut source, &mut bytes, &mut table, &mut text);
+    let mut from = BufReader::new(rt.alloc(), rt.reader())?;
+    let mut out = BufWriter::new(rt.alloc(), io::writer(&rt))?;
+    all(
+        &mut from,
+        &mut out,
+        &mut source,
+        &mut bytes,
+        &mut table,
+        &mut text,
+    )?;
+    out.flush()
 }

@@ -1,6 +1,6 @@
 #![tactic(auto)]
 // Reads sources from standard input, each behind its length, and prints for each the answer, its records, its text in hex and an empty line.
-use libc::STDIN_FILENO;
+use std::io::{self, BufReader, BufWriter, ErrorKind, Read, Write};
 
 // The four bytes of a length, the lowest first.
 const HEAD: usize = 4;
@@ -24,44 +24,70 @@ fn wide(b: u8) -> usize {
     b as usize
 }
 
-// Whether standard input fills all of a part.
-fn fills(part: &mut [u8]) -> bool {
-    io::read_full(STDIN_FILENO, part) == part.len()
+// Whether the input fills all of a part.
+fn fills<R: Read>(from: &mut R, part: &mut [u8]) -> io::Result<bool> {
+    match from.read_exact(part) {
+        Ok(()) => Ok(true),
+        Err(e) if e.kind() == ErrorKind::UnexpectedEof => Ok(false),
+        Err(e) => Err(e),
+    }
 }
 
-fn show(source: &[u8], nodes: &mut [u16], text: &mut [u8]) {
-    let last = print::reading(source, nodes, text);
-    print::bytes(&text[..last]);
-    print::line();
+fn show<W: Write>(
+    out: &mut W,
+    source: &[u8],
+    nodes: &mut [u16],
+    text: &mut [u8],
+) -> io::Result<()> {
+    let last = print::reading(out, source, nodes, text)?;
+    print::bytes(out, &text[..last])?;
+    print::line(out)
 }
 
 // Reads one source and shows it; false where the input does not hold one.
-fn one(source: &mut [u8], nodes: &mut [u16], text: &mut [u8]) -> bool {
+fn one<R: Read, W: Write>(
+    from: &mut R,
+    out: &mut W,
+    source: &mut [u8],
+    nodes: &mut [u16],
+    text: &mut [u8],
+) -> io::Result<bool> {
     let mut head = [0u8; HEAD];
-    if !fills(&mut head) {
-        return false;
+    if !fills(from, &mut head)? {
+        return Ok(false);
     }
     let n = length(head);
     if source.len() < n {
-        return false;
+        return Ok(false);
     }
-    if !fills(&mut source[0..n]) {
-        return false;
+    if !fills(from, &mut source[0..n])? {
+        return Ok(false);
     }
-    show(&source[0..n], nodes, text);
-    true
+    show(out, &source[0..n], nodes, text)?;
+    Ok(true)
 }
 
-fn all(source: &mut [u8], nodes: &mut [u16], text: &mut [u8]) {
-    let mut left = SOURCES;
-    while 0 < left && one(source, nodes, text) {
-        left -= 1;
+fn all<R: Read, W: Write>(
+    from: &mut R,
+    out: &mut W,
+    source: &mut [u8],
+    nodes: &mut [u16],
+    text: &mut [u8],
+) -> io::Result<()> {
+    for _ in 0..SOURCES {
+        if !one(from, out, source, nodes, text)? {
+            break;
+        }
     }
+    Ok(())
 }
 
-fn main() {
+fn main(rt: HostRuntime) -> io::Result<()> {
     let mut source = [0u8; SOURCE];
     let mut nodes = [0u16; NODES];
     let mut text = [0u8; TEXT];
-    all(&mut source, &mut nodes, &mut text);
+    let mut from = BufReader::new(rt.alloc(), rt.reader())?;
+    let mut out = BufWriter::new(rt.alloc(), io::writer(&rt))?;
+    all(&mut from, &mut out, &mut source, &mut nodes, &mut text)?;
+    out.flush()
 }

@@ -41,9 +41,6 @@ overflow_add-keys-then-c-eq0-2 c = omega (arith, c.wide.ensures)
 pub bounds-keys-j : goal.bounds-keys-j
 bounds-keys-j c = omega (arith, c.wide.ensures, walk_room c.requires.0 c.requires.1 c.requires.2 c.loop-keys.invariant)
 
-pub shape_of-keys-then-c-eq0 : goal.shape_of-keys-then-c-eq0
-shape_of-keys-then-c-eq0 c = (insert_linked c.requires.0 c.requires.1 c.requires.2 c.loop-keys.invariant (sym c.child-c.ensures ∙ c.if-c-eq0.true) _ c.wide.ensures).long
-
 pub returns-then-c-eq0 : goal.returns-then-c-eq0
 returns-then-c-eq0 c = insert_linked c.requires.0 c.requires.1 c.requires.2 c.loop-keys.invariant (sym c.child-c.ensures ∙ c.if-c-eq0.true) _ c.wide.ensures
 
