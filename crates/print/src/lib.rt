@@ -1,6 +1,6 @@
 #![tactic(auto)]
 // The lines that the programs print of an answer, to any writer.
-ghost use Rattle.std.specs.Prelude.{◌≤◌, length, IfOk};
+ghost use Rattle.std.specs.Io.{ReadsAtMost};
 
 use std::io::{self, Write};
 
@@ -78,7 +78,7 @@ pub fn reading<W: Write>(
     nodes: &mut [u16],
     text: &mut [u8],
 ) -> io::Result<usize>
-    ensures { IfOk result (λ n. n ≤ length text.new) }
+    ensures { ReadsAtMost result text.new }
 {
     let a = reader::read(source, nodes, text);
     answer(out, a.kind, a.place, a.nodes, a.text)?;
