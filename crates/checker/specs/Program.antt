@@ -1,6 +1,6 @@
 -- The layouts as the checker's code has them: grammar's program, and behind it the instructions of the kinds that it lacks (12, 13, 22, 23), with
 -- six moves of their own. A bare key (14) is laid out as a variable (5). The kinds with literal text (6 to 9) have none.
--- That the program at a kind's start is the kind's layout is computed (`right-coded`).
+-- That the program at a kind's start is the kind's layout is computed (`right_coded`).
 use Rattle.std.specs.Prelude.{ℕ, ◌+◌, ◌-◌, ◌≡◌, refl, List, [], ◌∷◌, Bool, true, false, cond, ◌&&◌, get_or, eqb, ltb, T}
 use Rattle.engine.specs.Base.{all_of}
 use Rattle.engine.specs.Layout.{bad, fin, move, kid, fork, rep}

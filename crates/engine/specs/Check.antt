@@ -1,5 +1,5 @@
 -- For code that checks one node: the rule as a function, `lays`, that goes through a layout over the children's records and finds where the node
--- ends, its flag and the children's attributes. `runs-lays` and `lays-runs`: it is the rule.
+-- ends, its flag and the children's attributes. `runs_lays` and `lays_runs`: it is the rule.
 use Rattle.std.specs.Prelude.{◌≡◌, refl, Bool, ◌&&◌, List, [], ◌∷◌, ℕ, suc, leb, T}
 use Rattle.std.proofs.Common.{ap, sym, ◌∙◌, subst, arith, leb→le, le→leb}
 use Rattle.std.proofs.Math.Option.{Option, none, some}

@@ -2,10 +2,10 @@
 -- one attribute at the roots. A `Walk` finds a node's children by their counts, from right to left. `Fine` is the rule at an index, whose
 -- children are found by a walk.
 --
---     wood-flat      a node whose children have its own attribute joins the wood in which they stand
---     wood-open      a node whose children have another attribute, and so stand in a wood of their own
---     wood-mixed     a node whose children have various attributes: they stand in groves, joined from left to right (grove-join, grove-wood)
---     wood-last      back: the last tree of a wood is fine, and its children stand in a grove
+--     wood_flat      a node whose children have its own attribute joins the wood in which they stand
+--     wood_open      a node whose children have another attribute, and so stand in a wood of their own
+--     wood_mixed     a node whose children have various attributes: they stand in groves, joined from left to right (grove_join, grove_wood)
+--     wood_last      back: the last tree of a wood is fine, and its children stand in a grove
 --
 -- So a checker's loop over the rows keeps: the wood from lo up to here stands exactly when the wood up to the end does.
 use Rattle.std.specs.Prelude.{◌≡◌, refl, List, [], ◌∷◌, ◌++◌, map, ℕ, suc, ◌+◌, ◌≤◌, ◌<◌, length}

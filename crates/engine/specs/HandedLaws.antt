@@ -235,7 +235,7 @@ module _ {P B X M C : Type 0} (N : Lang P (B × X) M C) (uses : M → Bool) (pas
   untested_local {b} {y} {r = r} x U (first k i q v) t = first k i (W.picks b x y r.start ∙ q) (runs_from x t v (U.is_sober k i))
   untested_local x U (later {l = l} k i st q h v) t = absurd (U.no_op_lem k i l.end q)
 
-  -- so for `own-to` and `own-from`
+  -- so for `own_to` and `own_from`
   pub own_untested : {Z : X → Rec P → Type 0} (a : (B × X) × ℕ) (r : Rec P) (rs : List (Rec P)) (bs : List ((B × X) × ℕ)) (y : X) → Tests-in a.0 a.1 r.kind → Local N a r rs bs → Tests Z (map hands bs) rs
       → Found carries hands Z (Local (untested N uses)) ((a.0.0, y), a.1) r rs (map carries bs) × T (passes (hands a) r.start)
   own_untested a r rs bs y U x ts = let (v, t) = local_untested y U x in (record { atts = bs; carry = refl; local = v; tests = ts }, t)

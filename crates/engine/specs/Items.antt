@@ -1,5 +1,5 @@
 -- For code that checks the children of a `rep` from the last to the first: `Lefts` is what the turns of such a loop have found so far, and
--- `lefts-whole`, `walk-found` say that it is the walk and the rule.
+-- `lefts_whole`, `walk_found` say that it is the walk and the rule.
 use Rattle.std.specs.Prelude.{◌≡◌, refl, List, ◌∷◌, ℕ, suc, ◌+◌, ◌≤◌, ◌<◌}
 use Rattle.std.proofs.Math.Option.{some}
 use Rattle.std.proofs.Common.{arith}

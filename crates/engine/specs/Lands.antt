@@ -1,10 +1,10 @@
 -- For code that checks one node with no case split at each step: the place moves on through the layout, or is none, and stays none. `lands` is
 -- the rule at a node as such straight code computes it; a kind whose layout has no option is one equation of it.
 --
---     lands-runs, runs-lands          it is the rule
---     first-local, local-first        the rule at a node that stands first; later-local, local-later: at an operator
---     Same, runs-only, local-only     all children have one attribute
---     only, lands-only                how many children a layout with no option has, by computation
+--     lands_runs, runs_lands          it is the rule
+--     first_local, local_first        the rule at a node that stands first; later_local, local_later: at an operator
+--     Same, runs_only, local_only     all children have one attribute
+--     only, lands_only                how many children a layout with no option has, by computation
 use Rattle.std.specs.Prelude.{◌≡◌, refl, Bool, true, false, ◌&&◌, ◌⊎◌, List, [], ◌∷◌, ℕ, zero, suc, ◌≤◌, leb, T, length}
 use Rattle.std.proofs.Common.{ap, sym, ◌∙◌, subst, inl, inr, arith}
 use Rattle.std.proofs.Math.Option.{Option, none, some}

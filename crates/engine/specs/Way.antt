@@ -3,15 +3,15 @@
 -- one rule for each constructor of a layout, for the move made and for the move refused; their premises are the equations of `go` and `down`
 -- that the leaf functions promise. They compose from the left, as code reads:
 --
---     way-pick        the kind at a place: its layout begins           pick-none       no kind is called for
---     way-move        move                                             way-stop        .. refused
---     way-kid         kid, with a child that was read                  way_deep        .. no attribute; way-kid-no: the child is refused
---     way-yes         fork, taken                                      way_no          .. not taken
---     way-rep         rep, one more child                              way-rep-deep, way-rep-no, as of kid; way_end: no more children
---     way-fin         the node ends                                    way-join        two stretches of one production, for loops
+--     way_pick        the kind at a place: its layout begins           pick_none       no kind is called for
+--     way_move        move                                             way_stop        .. refused
+--     way_kid         kid, with a child that was read                  way_deep        .. no attribute; way_kid_no: the child is refused
+--     way_yes         fork, taken                                      way_no          .. not taken
+--     way_rep         rep, one more child                              way_rep_deep, way_rep_no, as of kid; way_end: no more children
+--     way_fin         the node ends                                    way_join        two stretches of one production, for loops
 --
 -- Round a production stand `Led` (what stands first, with no operator after it) and `Part` (what stands so far, operators may follow):
--- part-led, part-more (an operator's production was read), part-stop (none follows above the bound), part_no, part-led-no.
+-- part_led, part_more (an operator's production was read), part_stop (none follows above the bound), part_no, part_led_no.
 use Rattle.std.specs.Prelude.{◌≡◌, refl, not, List, [], ◌∷◌, ℕ, ◌≤◌, ◌<◌, T}
 use Rattle.std.proofs.Common.{ap, sym, ◌∙◌, subst, arith}
 use Rattle.std.proofs.Math.Option.{Option, none, some}

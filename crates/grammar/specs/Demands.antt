@@ -1,4 +1,4 @@
--- The demands, each a statement that is read on its own; their proofs are in DemandLaws. s is the bytes of a source, `nodes` and `text` are the
+-- The demands, each a statement that is read on its own; their proofs are in proofs/DemandLaws.antt. s is the bytes of a source, `nodes` and `text` are the
 -- lent room: for so many nodes, and so many bytes of text.
 use Rattle.std.specs.Prelude.{ℕ, ◌*◌, ◌≤◌, ◌<◌, ◌≡◌, List, ◌↔◌, length, get_or, take, drop}
 use Rattle.std.proofs.Math.Option.{some}

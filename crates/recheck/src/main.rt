@@ -71,10 +71,12 @@ fn numbers(bytes: &[u8], table: &mut [u16]) {
 
 fn show<W: Write>(out: &mut W, source: &[u8], table: &[u16], text: &[u8]) -> io::Result<()> {
     if checker::check(source, table, text) {
-        out.write_all(b"1\n")
+        out.write_all(b"1\n")?;
     } else {
-        out.write_all(b"0\n")
+        out.write_all(b"0\n")?;
     }
+    // who sends the next triple may wait for this answer
+    out.flush()
 }
 
 // Reads one triple into parts that have its lengths, and shows it; false where the input does not hold it.

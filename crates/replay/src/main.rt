@@ -41,7 +41,9 @@ fn show<W: Write>(
 ) -> io::Result<()> {
     let last = print::reading(out, source, nodes, text)?;
     print::bytes(out, &text[..last])?;
-    print::line(out)
+    print::line(out)?;
+    // who sends the next source may wait for this answer
+    out.flush()
 }
 
 // Reads one source and shows it; false where the input does not hold one.
