@@ -6,12 +6,12 @@
 mod ask;
 mod say;
 
-use std::io::{self, BufWriter, Read, Write};
+use std::io::{self, Write};
 
 const HEAD: usize = 8;
 
 // So many bytes of records at most.
-const RECORDS: u64 = 65536;
+const RECORDS: usize = 65536;
 
 // The place that stands for the largest there is.
 const FAR: u8 = 255;
@@ -50,9 +50,7 @@ fn records<W: Write>(out: &mut W, b: &[u8]) -> io::Result<()> {
 }
 
 fn main(rt: HostRuntime) -> io::Result<()> {
-    let mut buf = Vec::new(rt.alloc());
-    rt.reader().take(RECORDS).read_to_end(&mut buf)?;
-    let mut out = BufWriter::new(rt.alloc(), io::writer(&rt))?;
-    records(&mut out, &buf)?;
-    out.flush()
+    let mut buf = [0u8; RECORDS];
+    let n = input::fill(&mut rt.reader(), &mut buf)?;
+    records(&mut io::writer(&rt), &buf[..n])
 }

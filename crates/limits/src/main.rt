@@ -5,12 +5,12 @@
 // 16 bytes: how often it comes (two bytes), its length, and its bytes.
 mod make;
 
-use std::io::{self, BufWriter, Read, Write};
+use std::io::{self, Write};
 
 const CASE: usize = 72;
 
 // So many bytes of cases at most.
-const CASES: u64 = 65536;
+const CASES: usize = 65536;
 
 // One byte more than a source may have.
 const SOURCE: usize = 65536;
@@ -55,12 +55,16 @@ fn all<W: Write>(
 }
 
 fn main(rt: HostRuntime) -> io::Result<()> {
-    let mut cases = Vec::new(rt.alloc());
+    let mut cases = [0u8; CASES];
     let mut source = [0u8; SOURCE];
     let mut nodes = [0u16; NODES];
     let mut text = [0u8; TEXT];
-    rt.reader().take(CASES).read_to_end(&mut cases)?;
-    let mut out = BufWriter::new(rt.alloc(), io::writer(&rt))?;
-    all(&mut out, &cases, &mut source, &mut nodes, &mut text)?;
-    out.flush()
+    let n = input::fill(&mut rt.reader(), &mut cases)?;
+    all(
+        &mut io::writer(&rt),
+        &cases[..n],
+        &mut source,
+        &mut nodes,
+        &mut text,
+    )
 }

@@ -1,6 +1,8 @@
 #![tactic(auto)]
 // The lines that the programs print of an answer, to any writer.
 ghost use Rattle.std.specs.Io.{ReadsAtMost};
+ghost use Rattle.reader.specs.declared.Answer.{Answer};
+ghost use Rattle.reader.specs.Read.{Reads};
 
 use std::io::{self, Write};
 
@@ -72,13 +74,15 @@ pub fn bytes<W: Write>(out: &mut W, b: &[u8]) -> io::Result<()> {
 }
 
 // Reads a source and prints the answer, then a line for each record. Gives back how many text bytes there are; a refusal has none.
+// An error is one that `out` gave; the lent room is as `read` left it, then too.
 pub fn reading<W: Write>(
     out: &mut W,
     source: &[u8],
     nodes: &mut [u16],
     text: &mut [u8],
 ) -> io::Result<usize>
-    ensures { ReadsAtMost result text.new }
+    ensures counts { ReadsAtMost result text.new }
+    ensures left { (a : Answer) × Reads source.now nodes.old nodes.new text.old text.new a }
 {
     let a = reader::read(source, nodes, text);
     answer(out, a.kind, a.place, a.nodes, a.text)?;

@@ -1,7 +1,7 @@
 #![tactic(auto)]
 // Reads triples of a source, a table and a text from standard input, behind their three lengths, and prints for each whether the table and the text are the
 // reading of the source: 1 or 0.
-use std::io::{self, BufReader, BufWriter, ErrorKind, Read, Write};
+use std::io::{self, Read, Write};
 
 // The four bytes of a length, the lowest first.
 const HEAD: usize = 4;
@@ -46,11 +46,7 @@ fn number(bytes: &[u8], i: usize) -> u16 {
 
 // Whether the input fills all of a part.
 fn fills<R: Read>(from: &mut R, part: &mut [u8]) -> io::Result<bool> {
-    match from.read_exact(part) {
-        Ok(()) => Ok(true),
-        Err(e) if e.kind() == ErrorKind::UnexpectedEof => Ok(false),
-        Err(e) => Err(e),
-    }
+    Ok(input::fill(from, part)? == part.len())
 }
 
 // The next length of the input; one that no room has where the input does not hold it.
@@ -71,12 +67,10 @@ fn numbers(bytes: &[u8], table: &mut [u16]) {
 
 fn show<W: Write>(out: &mut W, source: &[u8], table: &[u16], text: &[u8]) -> io::Result<()> {
     if checker::check(source, table, text) {
-        out.write_all(b"1\n")?;
+        out.write_all(b"1\n")
     } else {
-        out.write_all(b"0\n")?;
+        out.write_all(b"0\n")
     }
-    // who sends the next triple may wait for this answer
-    out.flush()
 }
 
 // Reads one triple into parts that have its lengths, and shows it; false where the input does not hold it.
@@ -151,15 +145,12 @@ fn main(rt: HostRuntime) -> io::Result<()> {
     let mut bytes = [0u8; BYTES];
     let mut table = [0u16; TABLE];
     let mut text = [0u8; TEXT];
-    let mut from = BufReader::new(rt.alloc(), rt.reader())?;
-    let mut out = BufWriter::new(rt.alloc(), io::writer(&rt))?;
     all(
-        &mut from,
-        &mut out,
+        &mut rt.reader(),
+        &mut io::writer(&rt),
         &mut source,
         &mut bytes,
         &mut table,
         &mut text,
-    )?;
-    out.flush()
+    )
 }

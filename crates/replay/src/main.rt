@@ -1,6 +1,6 @@
 #![tactic(auto)]
 // Reads sources from standard input, each behind its length, and prints for each the answer, its records, its text in hex and an empty line.
-use std::io::{self, BufReader, BufWriter, ErrorKind, Read, Write};
+use std::io::{self, Read, Write};
 
 // The four bytes of a length, the lowest first.
 const HEAD: usize = 4;
@@ -26,11 +26,7 @@ fn wide(b: u8) -> usize {
 
 // Whether the input fills all of a part.
 fn fills<R: Read>(from: &mut R, part: &mut [u8]) -> io::Result<bool> {
-    match from.read_exact(part) {
-        Ok(()) => Ok(true),
-        Err(e) if e.kind() == ErrorKind::UnexpectedEof => Ok(false),
-        Err(e) => Err(e),
-    }
+    Ok(input::fill(from, part)? == part.len())
 }
 
 fn show<W: Write>(
@@ -41,9 +37,7 @@ fn show<W: Write>(
 ) -> io::Result<()> {
     let last = print::reading(out, source, nodes, text)?;
     print::bytes(out, &text[..last])?;
-    print::line(out)?;
-    // who sends the next source may wait for this answer
-    out.flush()
+    print::line(out)
 }
 
 // Reads one source and shows it; false where the input does not hold one.
@@ -88,8 +82,11 @@ fn main(rt: HostRuntime) -> io::Result<()> {
     let mut source = [0u8; SOURCE];
     let mut nodes = [0u16; NODES];
     let mut text = [0u8; TEXT];
-    let mut from = BufReader::new(rt.alloc(), rt.reader())?;
-    let mut out = BufWriter::new(rt.alloc(), io::writer(&rt))?;
-    all(&mut from, &mut out, &mut source, &mut nodes, &mut text)?;
-    out.flush()
+    all(
+        &mut rt.reader(),
+        &mut io::writer(&rt),
+        &mut source,
+        &mut nodes,
+        &mut text,
+    )
 }

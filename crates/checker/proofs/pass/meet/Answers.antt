@@ -10,6 +10,9 @@ returns-then-want-ne-ITEM c = met_other _ _ _ _ _ c.requires.0.indexed c.if-want
 pub returns-then-not-alone : goal.returns-then-not-alone
 returns-then-not-alone c = met_loose _ _ _ _ _ c.requires.0.indexed (sym (c.requires.2 c.if-want-ne-ITEM.false) ∙ not-true _ c.if-not-alone.true-raw)
 
+pub returns : goal.returns
+returns c = met_new _ _ _ _ _ c.requires.0.indexed (rw (sym c.wide-a.ensures.0) c.insert.ensures) (sym (c.requires.2 c.if-want-ne-ITEM.false) ∙ not-false _ c.if-not-alone.false-raw) (rw (sym c.wide-a.ensures.0) (sym c.find.ensures ∙ c.if-find.false))
+
 pub find-requires : goal.find-requires
 find-requires c = (c.requires.0.indexed, rw c.wide-a.ensures.0 (c.requires.1 c.if-want-ne-ITEM.false))
 
@@ -18,6 +21,3 @@ returns-then-find c = met_old _ _ _ _ _ c.requires.0.indexed c.if-want-ne-ITEM.f
 
 pub insert-requires : goal.insert-requires
 insert-requires c = (c.requires.0.indexed, record { room = c.requires.0.room; few = c.requires.0.few; small = omega (arith, c.wide-a.ensures.1) }, rw c.wide-a.ensures.0 (c.requires.1 c.if-want-ne-ITEM.false))
-
-pub returns : goal.returns
-returns c = met_new _ _ _ _ _ c.requires.0.indexed (rw (sym c.wide-a.ensures.0) c.insert.ensures) (sym (c.requires.2 c.if-want-ne-ITEM.false) ∙ not-false _ c.if-not-alone.false-raw) (rw (sym c.wide-a.ensures.0) (sym c.find.ensures ∙ c.if-find.false))

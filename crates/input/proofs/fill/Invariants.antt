@@ -1,6 +1,6 @@
 -- What was read lies within the buffer.
 use Rattle.std.proofs.Common.{◌≤◌, length}
-use Rattle.hclread.proofs.fill.Given as goal
+use Rattle.input.proofs.fill.Given as goal
 
 abbrev pub invariant-loop : goal.invariant-loop
 invariant-loop g l = l.n ≤ length l.buf
