@@ -5,6 +5,7 @@ ghost use Rattle.reader.specs.Node.{number_at};
 ghost use Rattle.reader.specs.Read.{Reads};
 ghost use Rattle.capi.specs.Where.{Stands};
 
+use grammar::kinds::Limit;
 use reader::node::has_text;
 use reader::read;
 
@@ -52,11 +53,5 @@ fn number(nodes: &[u16], i: usize, j: usize) -> usize
     requires { (i < length nodes.now / 7) × (j < 7) }
     ensures { result ≡ number_at nodes.now (i * 7 + j) }
 {
-    wide(nodes[i * 7 + j])
-}
-
-fn wide(n: u16) -> usize
-    ensures { result ≡ n }
-{
-    n as usize
+    usize::from(nodes[i * Limit::RECORD + j])
 }

@@ -1,7 +1,9 @@
 // The questions: a function of `lexis` each, by number. tools/cases/README.md has the names of the numbers.
-use crate::say::{all, byte, flag, number, say};
+use crate::say::{all, flag, number, say};
+use input::byte;
 use lexis::heredoc::Line;
 use lexis::string::Why;
+use lexis::trivia::{Stop, Unclosed};
 use std::io::{self, Write};
 
 // Where the four further numbers of a record stand.
@@ -25,7 +27,7 @@ fn part(s: &[u8], from: usize, to: usize) -> &[u8] {
 // The byte at p, then a yes or no for each class.
 fn classes<W: Write>(out: &mut W, s: &[u8], p: usize) -> io::Result<()> {
     let b = lexis::bytes::byte_at(s, p);
-    say(out, b as usize)?;
+    say(out, usize::from(b))?;
     flag(out, lexis::bytes::is_space(b))?;
     flag(out, lexis::bytes::is_digit(b))?;
     flag(out, lexis::bytes::is_letter(b))?;
@@ -42,8 +44,8 @@ fn bytes<W: Write>(out: &mut W, q: u8, head: &[u8], s: &[u8], p: usize) -> io::R
             out,
             lexis::bytes::within(
                 lexis::bytes::byte_at(s, p),
-                byte(head, A) as u16,
-                byte(head, B) as u16,
+                u16::from(byte(head, A)),
+                u16::from(byte(head, B)),
             ),
         ),
         3 => flag(out, lexis::bytes::one_at(s, p, byte(head, A))),
@@ -59,9 +61,26 @@ fn bytes<W: Write>(out: &mut W, q: u8, head: &[u8], s: &[u8], p: usize) -> io::R
     }
 }
 
-fn gap<W: Write>(out: &mut W, g: lexis::trivia::Gap) -> io::Result<()> {
-    say(out, g.at)?;
-    flag(out, g.unclosed)
+// A place, and whether a comment is unclosed there.
+fn gap<W: Write>(out: &mut W, g: Result<usize, Unclosed>) -> io::Result<()> {
+    match g {
+        Ok(at) => place(out, at, 0),
+        Err(e) => place(out, e.at, 1),
+    }
+}
+
+// A place, and a number that says what is there.
+fn place<W: Write>(out: &mut W, at: usize, what: usize) -> io::Result<()> {
+    say(out, at)?;
+    say(out, what)
+}
+
+fn stop<W: Write>(out: &mut W, s: &[u8], p: usize) -> io::Result<()> {
+    match lexis::trivia::terminator(s, p) {
+        Stop::Nothing => place(out, p, 0),
+        Stop::End(at) => place(out, at, 1),
+        Stop::Cut(at) => place(out, at, 2),
+    }
 }
 
 fn trivia<W: Write>(out: &mut W, q: u8, s: &[u8], p: usize) -> io::Result<()> {
@@ -69,11 +88,7 @@ fn trivia<W: Write>(out: &mut W, q: u8, s: &[u8], p: usize) -> io::Result<()> {
         10 => say(out, lexis::trivia::line_ending(s, p)),
         11 => gap(out, lexis::trivia::skip_line(s, p)),
         12 => gap(out, lexis::trivia::skip_any(s, p)),
-        _ => {
-            let t = lexis::trivia::terminator(s, p);
-            say(out, t.at)?;
-            say(out, t.how as usize)
-        }
+        _ => stop(out, s, p),
     }
 }
 
@@ -87,7 +102,10 @@ fn words<W: Write>(out: &mut W, q: u8, head: &[u8], s: &[u8], p: usize) -> io::R
         22 => say(out, lexis::word::in_end(s, p)),
         23 => say(out, lexis::word::if_end(s, p)),
         24 => say(out, lexis::word::for_end(s, p)),
-        _ => say(out, lexis::word::constant_at(s, p) as usize),
+        _ => say(
+            out,
+            usize::from(lexis::word::constant_at(s, p).unwrap_or(0)),
+        ),
     }
 }
 
@@ -95,19 +113,18 @@ fn numbers<W: Write>(out: &mut W, q: u8, s: &[u8], p: usize) -> io::Result<()> {
     match q {
         30 => say(out, lexis::number::digits_end(s, p)),
         31 => say(out, lexis::number::number_end(s, p)),
-        _ => {
-            let x = lexis::number::index_at(s, p);
-            say(out, x.end)?;
-            flag(out, x.over)
-        }
+        _ => match lexis::number::index_at(s, p) {
+            Ok(end) => place(out, end, 0),
+            Err(over) => place(out, over.end, 1),
+        },
     }
 }
 
 fn operator<W: Write>(out: &mut W, s: &[u8], p: usize) -> io::Result<()> {
-    let o = lexis::operator::op_at(s, p);
-    say(out, o.kind as usize)?;
-    say(out, o.level as usize)?;
-    say(out, o.width)
+    match lexis::operator::op_at(s, p) {
+        Some(o) => write!(out, " {} {} {}", o.kind, o.level, o.width),
+        None => write!(out, " 0 0 0"),
+    }
 }
 
 fn marks<W: Write>(out: &mut W, q: u8, head: &[u8], s: &[u8], p: usize) -> io::Result<()> {
@@ -142,13 +159,18 @@ fn why<W: Write>(out: &mut W, y: Why) -> io::Result<()> {
     }
 }
 
+// A unit that stands has no reason.
 fn unit<W: Write>(out: &mut W, s: &[u8], p: usize, quoted: bool) -> io::Result<()> {
-    let u = lexis::string::unit_at(s, p, quoted);
-    say(out, u.width)?;
-    say(out, u.bytes as usize)?;
-    say(out, u.count as usize)?;
-    let y = u.why;
-    why(out, y)
+    match lexis::string::unit_at(s, p, quoted) {
+        Ok(u) => {
+            write!(out, " {} {} {}", u.width, u.bytes, u.count)?;
+            why(out, Why::End)
+        }
+        Err(y) => {
+            write!(out, " 0 0 0")?;
+            why(out, y)
+        }
+    }
 }
 
 fn run<W: Write>(
@@ -163,8 +185,7 @@ fn run<W: Write>(
     say(out, r.end)?;
     say(out, r.length)?;
     flag(out, r.escaped)?;
-    let y = r.why;
-    why(out, y)
+    why(out, r.why)
 }
 
 // Whether the text was written, then the whole buffer.
@@ -194,12 +215,14 @@ fn texts<W: Write>(out: &mut W, q: u8, head: &[u8], s: &[u8], p: usize) -> io::R
 }
 
 fn opener<W: Write>(out: &mut W, s: &[u8], p: usize) -> io::Result<()> {
-    let o = lexis::heredoc::opener_at(s, p);
-    flag(out, o.good)?;
-    flag(out, o.dash)?;
-    say(out, o.from)?;
-    say(out, o.to)?;
-    say(out, o.at)
+    match lexis::heredoc::opener_at(s, p) {
+        Ok(o) => {
+            flag(out, true)?;
+            flag(out, o.dash)?;
+            write!(out, " {} {} {}", o.from, o.to, o.at)
+        }
+        Err(at) => write!(out, " 0 0 0 0 {at}"),
+    }
 }
 
 // 0 for text; 1 for a closing line, 2 for a foreign scalar, each with its place.
@@ -235,9 +258,9 @@ fn keys<W: Write>(out: &mut W, q: u8, head: &[u8], s: &[u8], p: usize) -> io::Re
         return flag(out, lexis::keys::same_key(s, p, a));
     }
     let starts = [
-        byte(head, A) as u16,
-        byte(head, B) as u16,
-        byte(head, C) as u16,
+        u16::from(byte(head, A)),
+        u16::from(byte(head, B)),
+        u16::from(byte(head, C)),
     ];
     flag(
         out,

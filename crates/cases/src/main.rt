@@ -6,9 +6,13 @@
 mod ask;
 mod say;
 
+use input::byte;
 use std::io::{self, Write};
 
 const HEAD: usize = 8;
+
+// Where a record has the length of its source.
+const LENGTH: usize = 7;
 
 // So many bytes of records at most.
 const RECORDS: usize = 65536;
@@ -16,35 +20,32 @@ const RECORDS: usize = 65536;
 // The place that stands for the largest there is.
 const FAR: u8 = 255;
 
-const LARGEST: usize = 18446744073709551615;
-
 fn place(k: u8) -> usize {
-    if k == FAR { LARGEST } else { k as usize }
+    if k == FAR { usize::MAX } else { usize::from(k) }
 }
 
 // Asks one question of a source, at each place.
 fn record<W: Write>(out: &mut W, head: &[u8], s: &[u8]) -> io::Result<()> {
-    let q = say::byte(head, 0);
-    let last = say::byte(head, 2);
+    let q = byte(head, 0);
+    let last = byte(head, 2);
     say::first(out, q)?;
-    for k in say::byte(head, 1)..=last {
+    for k in byte(head, 1)..=last {
         ask::question(out, q, head, s, place(k))?;
         say::next(out, k < last)?;
     }
-    say::line(out)
+    writeln!(out)
 }
 
 // Goes through the records. What is cut off at the end is left out.
 fn records<W: Write>(out: &mut W, b: &[u8]) -> io::Result<()> {
-    let mut i = 0;
-    while i + HEAD <= b.len() {
-        let from = i + HEAD;
-        let to = from + say::byte(b, from - 1) as usize;
-        if b.len() < to {
-            return Ok(());
-        }
-        record(out, &b[i..from], &b[from..to])?;
-        i = to;
+    let mut rest = b;
+    while let Some((head, after)) = rest.split_at_checked(HEAD) {
+        let length = usize::from(byte(head, LENGTH));
+        let Some((source, behind)) = after.split_at_checked(length) else {
+            break;
+        };
+        record(out, head, source)?;
+        rest = behind;
     }
     Ok(())
 }

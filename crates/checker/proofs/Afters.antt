@@ -7,13 +7,11 @@ use native.Mathlib.Omega.{arith}
 use lib.ListN.{drop}
 use lib.Dec.{eqb}
 use borrow.Author.Tests.{eqb-true}
-use Rattle.lexis.specs.declared.trivia.Stop.{Stop}
 use Rattle.lexis.specs.Bytes.{byte_at, begins, stands}
-use Rattle.lexis.specs.Trivia.{gap_to, stop_at, stop_to, Stopped}
+use Rattle.lexis.specs.Trivia.{Stopping, gap_to, stop_at, stop_to, Stopped}
 use Rattle.lexis.specs.Trivia as trivia
 use Rattle.lexis.specs.RunLaws.{clash, and_left, stands_one, stands_two, stands_inside}
-use Rattle.grammar.specs.declared.moves.Went.{Went}
-use Rattle.grammar.specs.Said.{went, Moved}
+use Rattle.grammar.specs.Said.{Went, went, Moved}
 use Rattle.checker.specs.LeafMore.{AfterBy, EndedTo}
 use Rattle.checker.proofs.Goings.{after_gap, after_shut, after_more}
 use Rattle.checker.proofs.Lones.{gap_here}
@@ -24,18 +22,15 @@ module _ {s : List ℕ} {p q : ℕ} (x : EndedTo s p q) {w : Went} (m : Moved s 
   behind : Moved s x.stop.at true w
   behind = subst (λ (o : ℕ). Moved s o true w) (sym x.at) m
 
-  pub over_gap : {r : Went} → ¬ (w.kind ≡ 0) → r ≡ went 2 p → AfterBy s p r
-  over_gap n f = after_gap x.moved x.made x.opened x.stopped x.ends behind n f
+  pub over_gap : ¬ (w.kind ≡ 0) → AfterBy s p (went 2 p)
+  over_gap n = after_gap x.moved x.made x.opened x.stopped x.ends behind n
 
   module _ (y : w.kind ≡ 0) where
-    pub over_shut : {r : Went} → stands (125 ∷ []) s w.at ≡ true → r ≡ went 1 (w.at + 1) → AfterBy s p r
-    over_shut b f = after_shut x.moved x.made x.opened x.stopped x.ends behind y b f
+    pub over_shut : stands (125 ∷ []) s w.at ≡ true → AfterBy s p (went 1 (w.at + 1))
+    over_shut b = after_shut x.moved x.made x.opened x.stopped x.ends behind y b
 
-    pub over_more : stands (125 ∷ []) s w.at ≡ false → AfterBy s p w
+    pub over_more : stands (125 ∷ []) s w.at ≡ false → AfterBy s p (went 0 w.at)
     over_more b = after_more x.moved x.made x.opened x.stopped x.ends behind y b
-
-pub ended_to : {s : List ℕ} {p : ℕ} {g : Went} {x : Stop} → Moved s p false g → g.kind ≡ 0 → stands (125 ∷ []) s g.at ≡ false → Stopped s g.at x → x.how ≡ 1 → EndedTo s p x.at
-ended_to {s} {p} {g} {x} m z h st e = record { gap = g; moved = m; made = z; opened = h; stop = x; stopped = st; ends = e; at = refl }
 
 -- ---- a line's end
 

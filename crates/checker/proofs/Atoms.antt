@@ -12,9 +12,8 @@ use Rattle.lexis.specs.Bytes.{byte_at, stands, Ran}
 use Rattle.lexis.specs.Operator.{mark_to}
 use Rattle.lexis.specs.Word.{is_word, word_to, for_to}
 use Rattle.lexis.specs.RunLaws.{stands_one, stands_cons}
-use Rattle.grammar.specs.declared.moves.Went.{Went}
 use Rattle.grammar.specs.Moves.{Under, Step, to, no, then, place, Atom, gap, mark, opens, any, here, skip, when, unexpected, token, word, ahead, for, parts, is_part, unless, comma, call, refused, marks, opening, atom, Move, walk}
-use Rattle.grammar.specs.Said.{Moved}
+use Rattle.grammar.specs.Said.{Went, Moved}
 use Rattle.checker.proofs.Goings.{unexpected_none, then_none, past_none, past_some, mark_comes, level_none, level_some}
 
 -- the move m goes from p to q; it can't be made

@@ -13,11 +13,10 @@ use Rattle.lexis.proofs.Runs.{moved}
 use Rattle.lexis.specs.Word.{ident_to}
 use Rattle.lexis.specs.Operator.{is_mark, mark_to}
 use Rattle.engine.specs.Base.{has}
-use Rattle.grammar.specs.declared.moves.Went.{Went}
 use Rattle.grammar.specs.Kinds.{Unclosed}
 use Rattle.grammar.specs.Moves.{Under, to, no, when, skip, gap, ident, mark, any}
 use Rattle.grammar.specs.Hcl.{under}
-use Rattle.grammar.specs.Said.{Moved, byte_beyond}
+use Rattle.grammar.specs.Said.{Went, Moved, byte_beyond}
 use Rattle.grammar.specs.KeyLaws.{start_digit}
 use Rattle.grammar.proofs.Callings.{part_attribute}
 use Rattle.grammar.specs.Published.{want_of}

@@ -9,10 +9,9 @@ use lib.Dec.{eqb}
 use Rattle.lexis.specs.Bytes.{Ran, stands}
 use Rattle.lexis.specs.Operator.{mark_to}
 use Rattle.engine.specs.Layout.{move, rep}
-use Rattle.grammar.specs.declared.moves.Went.{Went}
 use Rattle.grammar.specs.Moves.{gap, mark, here, call}
 use Rattle.grammar.specs.Layouts.{Layout, called, opening, call_lay}
-use Rattle.grammar.specs.Said.{Moved}
+use Rattle.grammar.specs.Said.{Went, Moved}
 use Rattle.checker.specs.Rows.{row_at}
 use Rattle.checker.specs.Lay.{KidBy}
 use Rattle.checker.specs.Rest.{RestBy}

@@ -8,10 +8,9 @@ use lib.Dec.{eqb}
 use Rattle.lexis.specs.Bytes.{Ran}
 use Rattle.lexis.specs.Operator.{mark_to}
 use Rattle.engine.specs.Layout.{fin}
-use Rattle.grammar.specs.declared.moves.Went.{Went}
 use Rattle.grammar.specs.Moves.{gap, here}
 use Rattle.grammar.specs.Layouts.{conditional_lay}
-use Rattle.grammar.specs.Said.{Moved}
+use Rattle.grammar.specs.Said.{Went, Moved}
 use Rattle.checker.specs.Rows.{row_at}
 use Rattle.checker.specs.Lay.{KidBy}
 use Rattle.checker.specs.Rest.{RestBy, StepBy, branch_lay}

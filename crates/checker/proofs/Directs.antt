@@ -10,22 +10,19 @@ use lib.Dec.{eqb, T}
 use borrow.Author.Tests.{eqb-true, eqb-false}
 use Rattle.index.specs.Index.{Indexed}
 use Rattle.engine.specs.Base.{has}
-use Rattle.grammar.specs.declared.shape.Child.{Child}
-use Rattle.grammar.specs.declared.moves.Went.{Went}
 use Rattle.grammar.specs.Kinds.{tight_of}
 use Rattle.grammar.specs.Moves.{Move, gap, line, place, walk}
 use Rattle.grammar.specs.Layouts.{Class, right, operator_lay}
 use Rattle.grammar.specs.Hcl.{under, downs, bounds, styles}
-use Rattle.grammar.specs.Said.{went, Moved}
+use Rattle.grammar.specs.Said.{Child, Went, went, Moved}
 use Rattle.grammar.specs.Published.{want_of, kinds_of, More}
 use Rattle.grammar.specs.Code.{atoms, move_of, operation, argument, class, otherwise}
 use Rattle.checker.specs.Rows.{row_at, rec_at}
 use Rattle.checker.specs.Program.{own, code_in, move_in, class_in, Codes, begin_in, laid_out}
 use Rattle.checker.specs.Leaf.{ChildAt}
 use Rattle.checker.specs.LeafMore.{Goes, SignBy}
-use Rattle.checker.specs.declared.node.Left.{Left}
-use Rattle.checker.specs.Node.{LeftTo}
-use Rattle.checker.specs.Child.{kidded, ChildBy}
+use Rattle.checker.specs.Node.{Left, LeftTo}
+use Rattle.checker.specs.Child.{kidded}
 use Rattle.checker.specs.Lay.{KidBy, Direct, PassedBy, EndsAt, LaidBy, Operates, OperatorBy}
 use Rattle.checker.proofs.Programs.{child_key, child_value}
 use Rattle.checker.proofs.Goings.{here_on, here_no, line_on, line_no}
@@ -67,10 +64,10 @@ module _ (s t : List ℕ) (i left : ℕ) (lines : Bool) where
   pub kid_passed : {m D D' K : List ℕ} {j n c at v : ℕ} {y : Child} (r : Bool) → ChildAt c left lines y → ¬ (y.want ≡ 4) → v ≡ y.left + y.left + cond y.lines 1 0 → Indexed s K 0 n → KidBy t i D D' j at y.bound y.want v r → PassedBy s t i m D D' K K j n c left lines at (kidded t m j n r)
   kid_passed {m} {D} {D'} {K} {j} {n} {c} {at} {v} {y} true h f p ix k =
       subst (λ (o : List ℕ). PassedBy s t i m D o K K j n c left lines at (kidded t m j n true)) (sym (k.put refl))
-      (pass_yes s t i m D K j n c left lines at h (k.suits refl) refl (met_other s K n (row_at t j).start y.want ix f) refl (k.inside refl) p refl refl refl refl)
+      (pass_yes s t i m D K j n c left lines at h (k.suits refl) refl (met_other s K n (row_at t j).start y.want ix f) (k.inside refl) p refl refl)
   kid_passed {m} {D} {D'} {K} {j} {n} {c} {at} {v} {y} false h f p ix k =
       subst (λ (o : List ℕ). PassedBy s t i m D o K K j n c left lines at (kidded t m j n false)) (sym (k.still refl))
-      (pass_no s t i m D K j n c left lines at refl refl (λ l a g w σ ks e b. let (u, x) = kinds_in s t i m D K j n c left lines at h w σ ks (rec_at t j) b in (k.no refl l).no refl a g u x))
+      (pass_no s t i m D K j n c left lines at refl (λ l a g w σ ks e b. let (u, x) = kinds_in s t i m D K j n c left lines at h w σ ks (rec_at t j) b in (k.no refl l).no refl a g u x))
 
   module _ {m D₀ D K : List ℕ} {j₀ p₀ pc q j n : ℕ} (w : Turn s t i left lines m D₀ D K j₀ p₀ pc q j n) where
     module _ {D' : List ℕ} {v : ℕ} {y : Child} (e : operation (code_in pc) ≡ 3) (h : ChildAt (class (code_in pc)) left lines y) (f : ¬ (y.want ≡ 4)) (p : v ≡ y.left + y.left + cond y.lines 1 0) (deep : i < length D) where
@@ -105,9 +102,6 @@ module _ (s t : List ℕ) (i left : ℕ) (lines : Bool) where
     -- the row that is next
     pub direct_low : j ≤ i
     direct_low = chain_le m i w.js j w.chain
-
-pub child_by : {t : List ℕ} {i left : ℕ} {lines : Bool} {D D' : List ℕ} {j c at v : ℕ} {y : Child} {r : Bool} → ChildAt c left lines y → v ≡ y.left + y.left + cond y.lines 1 0 → KidBy t i D D' j at y.bound y.want v r → ChildBy t i D D' j c left lines at r
-child_by {t} {i} {left} {lines} {r = r} h p k = record { long = k.long; inside = k.inside; passed = λ s m K n ne ix. kid_passed s t i left lines r h (λ z. ne (h.item z)) p ix k }
 
 -- ---- items: the program from 236 on
 

@@ -10,10 +10,9 @@ use borrow.Author.Tests.{eq-eqb, ne_eqb}
 use Rattle.lexis.specs.Bytes.{byte_at, Ran}
 use Rattle.lexis.specs.Operator.{mark_to}
 use Rattle.engine.specs.Layout.{fin, move, rep}
-use Rattle.grammar.specs.declared.moves.Went.{Went}
 use Rattle.grammar.specs.Moves.{to, skip}
 use Rattle.grammar.specs.Layouts.{inside, Layout, past, between, closing}
-use Rattle.grammar.specs.Said.{Moved}
+use Rattle.grammar.specs.Said.{Went, Moved}
 use Rattle.checker.specs.Rows.{row_at}
 use Rattle.checker.specs.Lay.{KidBy, EndsAt}
 use Rattle.checker.specs.Rest.{RestBy}

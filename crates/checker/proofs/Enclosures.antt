@@ -10,9 +10,8 @@ use Rattle.lexis.specs.Bytes.{Ran}
 use Rattle.lexis.specs.Operator.{mark_to}
 use borrow.Author.Tests.{eqb-true, eqb-false}
 use Rattle.engine.specs.Layout.{move, fork}
-use Rattle.grammar.specs.declared.moves.Went.{Went}
 use Rattle.grammar.specs.Layouts.{Layout, opening, past, plain, strip_lay}
-use Rattle.grammar.specs.Said.{Moved}
+use Rattle.grammar.specs.Said.{Went, Moved}
 use Rattle.checker.specs.Rows.{row_at}
 use Rattle.checker.specs.Lay.{KidBy, Direct, Seating, EndsAt}
 use Rattle.checker.specs.Rest.{RestBy, StepBy, TailBy, inside_lay, stripped_lay}

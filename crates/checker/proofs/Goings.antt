@@ -1,5 +1,5 @@
 -- Moves of the checker's own: atom by atom.
-use Prim.Native.Nat.{ℕ, zero, suc, ◌+◌, ◌-◌, ◌≤◌, ◌<◌}
+use Prim.Native.Nat.{ℕ, zero, suc, ◌+◌, ◌≤◌}
 use mathlib.Core.Path.{◌≡◌, refl, sym, ap, subst, ◌∙◌}
 use mathlib.Core.List.{List, [], ◌∷◌}
 use mathlib.Core.Bool.{Bool, true, false, cond, not, ◌&&◌, ◌||◌}
@@ -7,22 +7,21 @@ use mathlib.Core.Option.{none, some}
 use native.Mathlib.Omega.{arith}
 use lib.ListN.{length, drop}
 use lib.Dec.{eqb}
-use borrow.Author.Tests.{eq-eqb, ne_eqb, eqb-true, lt-ltb, le-ltb}
-use Rattle.lexis.specs.declared.trivia.Stop.{Stop}
+use borrow.Author.Tests.{eq-eqb, ne_eqb, eqb-true}
 use Rattle.lexis.specs.Bytes.{byte_at, is_foreign, begins, stands, Ran}
-use Rattle.lexis.specs.Trivia.{stop_at, Stopped}
+use Rattle.lexis.specs.declared.trivia.Stop.{Stop}
+use Rattle.lexis.specs.declared.trivia.Stop.TheVariants as stops
+use Rattle.lexis.specs.Trivia.{Stopping, stop_at, stop_of, Stopped}
 use Rattle.lexis.specs.Trivia as trivia
 use Rattle.lexis.specs.Word.{ident_to}
-use Rattle.lexis.specs.Operator.{is_mark, mark_to, equals_to, bang_to}
+use Rattle.lexis.specs.Operator.{is_mark, mark_to, equals_to}
 use Rattle.lexis.specs.Keys.{among}
 use Rattle.lexis.specs.RunLaws.{clash, and_left, stands_one, stands_inside}
-use Rattle.grammar.specs.declared.moves.Went.{Went}
 use Rattle.grammar.specs.Kinds.{Foreign, Unexpected}
 use Rattle.grammar.specs.Moves.{Under, Step, to, no, then, place, when, unexpected, token, Atom, gap, ident, mark, opens, unless, stop, ended, fresh, any, line, here, Want, keys_of, behind_key, skip, marks, level, opening, stop_step, stopping, atom, Move, walk}
 use Rattle.grammar.specs.Hcl.{under}
-use Rattle.grammar.specs.Code.{move_at}
-use Rattle.grammar.specs.Said.{went, Moved, Made, Walked}
-use Rattle.checker.specs.Program.{own_move, move_in}
+use Rattle.grammar.specs.Said.{Went, went, Moved, Made}
+use Rattle.checker.specs.Program.{own_move}
 use Rattle.checker.specs.Leaf.{GoneAt}
 use Rattle.checker.specs.LeafMore.{Past, Comes, Goes, OneBy, SignBy, AfterBy}
 
@@ -34,10 +33,6 @@ unexpected_none s p = go (is_foreign (byte_at s p))
     go : (b : Bool) → place (when b (no Foreign p) (no Unexpected p)) ≡ none
     go true = refl
     go false = refl
-
-then_to : (x : Step) → then x to ≡ x
-then_to (to q) = refl
-then_to (no k q) = refl
 
 pub then_none : (x : Step) (f : ℕ → Step) → place x ≡ none → place (then x f) ≡ none
 then_none (to q) f e = absurd (let z : ◌≡◌ {A = ℕ} 0 1 = cc in omega arith)
@@ -90,20 +85,20 @@ pub level_some : (s : List ℕ) (left : ℕ) (w : List ℕ) (longer : List (List
 level_some s zero w longer p n = absurd (n refl)
 level_some s (suc d) w longer p n = refl
 
-pub bang_deep : (s : List ℕ) {left p : ℕ} {r : Went} → left ≡ 0 → r ≡ went 8 p → Comes (opening s left (33 ∷ []) ((33 ∷ 61 ∷ []) ∷ []) p) r
-bang_deep s {left} {p} h f = record { good = λ z. absurd (refused_kind f z); bad = λ z. rw h (level_none s (33 ∷ []) ((33 ∷ 61 ∷ []) ∷ []) p) }
-
-pub bang_past : {s : List ℕ} {left p e : ℕ} {r : Went} → ¬ (left ≡ 0) → Ran s p (bang_to s p) e → Past p e r → Comes (opening s left (33 ∷ []) ((33 ∷ 61 ∷ []) ∷ []) p) r
-bang_past {s} {left} {p} n h f = rw (level_some s left (33 ∷ []) ((33 ∷ 61 ∷ []) ∷ []) p n) (mark_comes (33 ∷ []) ((33 ∷ 61 ∷ []) ∷ []) (omega arith) h f)
-
 -- ---- what ends an item, and any trivia
 
-stop_none : (s : List ℕ) (p n : ℕ) (x : Stop) → ¬ (n ≡ 1) → place (stop_step s p n x) ≡ none
+stop_none : (s : List ℕ) (p n : ℕ) (x : Stopping) → ¬ (n ≡ 1) → place (stop_step s p n x) ≡ none
 stop_none s p zero x h = unexpected_none s p
 stop_none s p (suc zero) x h = absurd (h refl)
 stop_none s p (suc (suc n)) x h = refl
 
-module _ {s : List ℕ} {p : ℕ} {x : Stop} (st : Stopped s p x) where
+-- what is no end
+pub stop_other : (p : ℕ) (t : Stop) → ((q : ℕ) → t ≡ stops.End q → ⊥) → ¬ ((stop_of p t).how ≡ 1)
+stop_other p stops.Nothing n e = omega (arith, e)
+stop_other p (stops.End q) n e = n q refl
+stop_other p (stops.Cut q) n e = omega (arith, e)
+
+module _ {s : List ℕ} {p : ℕ} {x : Stopping} (st : Stopped s p x) where
   stopped : stopping s p ≡ stop_step s p x.how x
   stopped = rw (← st.is)
 
@@ -313,23 +308,15 @@ module _ {s : List ℕ} {m : Move} {p : ℕ} {r : Went} (g : Goes s m p r) where
   goes_no n = record { good = λ y. absurd (omega arith); bad = λ y. g.bad n }
 
 module _ {s : List ℕ} {m n : Move} {p : ℕ} {e : Went} (g : Goes s m p e) where
-  one_first : e.kind ≡ 0 → OneBy s m n p e
+  one_first : e.kind ≡ 0 → OneBy s m n p (went 0 e.at)
   one_first z = record { first = λ y. goes_yes g z; second = λ y. absurd (omega arith); neither = λ n. absurd (n (omega arith)) }
 
-  module _ (no : ¬ (e.kind ≡ 0)) {c r : Went} (h : Goes s n p c) where
-    one_second : c.kind ≡ 0 → r ≡ went 1 c.at → OneBy s m n p r
-    one_second z f =
-        let k : r.kind ≡ 1 = ap (λ (w : Went). w.kind) f in
-        record {
-          first = λ y. absurd (omega arith);
-          second = λ y. (goes_no g no, subst (λ (o : ℕ). Goes s n p (went 0 o)) (sym (ap (λ (w : Went). w.at) f)) (goes_yes h z));
-          neither = λ y. absurd (y (omega arith));
-        }
+  module _ (no : ¬ (e.kind ≡ 0)) {c : Went} (h : Goes s n p c) where
+    one_second : c.kind ≡ 0 → OneBy s m n p (went 1 c.at)
+    one_second z = record { first = λ y. absurd (omega (arith, y)); second = λ y. (goes_no g no, goes_yes h z); neither = λ y. absurd (y (omega arith)) }
 
-    one_neither : ¬ (c.kind ≡ 0) → r ≡ went 2 p → OneBy s m n p r
-    one_neither z f =
-        let k : r.kind ≡ 2 = ap (λ (w : Went). w.kind) f in
-        record { first = λ y. absurd (omega arith); second = λ y. absurd (omega arith); neither = λ y. (goes_no g no, goes_no h z) }
+    one_neither : ¬ (c.kind ≡ 0) → OneBy s m n p (went 2 p)
+    one_neither z = record { first = λ y. absurd (omega (arith, y)); second = λ y. absurd (omega (arith, y)); neither = λ y. (goes_no g no, goes_no h z) }
 
 -- ---- the sign of an item, and what stands behind it
 
@@ -337,19 +324,19 @@ four : ¬ (◌≡◌ {A = ℕ} 4 0)
 four e = omega (arith, e)
 
 module _ {s : List ℕ} {p : ℕ} {g : Went} (sp : Moved s p false g) where
-  pub sign_no : {r : Went} → ¬ (g.kind ≡ 0) → r ≡ went 2 p → SignBy s p r
-  sign_no n f = one_neither (equals_no sp n) n (colon_no sp n) n f
+  pub sign_no : ¬ (g.kind ≡ 0) → SignBy s p (went 2 p)
+  sign_no n = one_neither (equals_no sp n) n (colon_no sp n) n
 
   module _ (z : g.kind ≡ 0) {e : ℕ} (h : Ran s g.at (equals_to s g.at) e) where
-    pub sign_equals : {r : Went} → ¬ (e ≡ g.at) → r ≡ went 0 e → SignBy s p r
-    sign_equals n f = one_first (equals_past sp z h (past_some n f)) (ap (λ (w : Went). w.kind) f)
+    pub sign_equals : ¬ (e ≡ g.at) → SignBy s p (went 0 e)
+    sign_equals n = one_first (equals_past sp z h (past_some n refl)) refl
 
     module _ (y : e ≡ g.at) {d : ℕ} (i : Ran s g.at (mark_to (58 ∷ []) [] s g.at) d) where
-      pub sign_colon : {r : Went} → ¬ (d ≡ g.at) → r ≡ went 1 d → SignBy s p r
-      sign_colon n f = one_second (equals_past sp z h (past_none y refl)) four (colon_past sp z i (past_some n refl)) refl f
+      pub sign_colon : ¬ (d ≡ g.at) → SignBy s p (went 1 d)
+      sign_colon n = one_second (equals_past sp z h (past_none y refl)) four (colon_past sp z i (past_some n refl)) refl
 
-      pub sign_none : {r : Went} → d ≡ g.at → r ≡ went 2 p → SignBy s p r
-      sign_none n f = one_neither (equals_past sp z h (past_none y refl)) four (colon_past sp z i (past_none n refl)) four f
+      pub sign_none : d ≡ g.at → SignBy s p (went 2 p)
+      sign_none n = one_neither (equals_past sp z h (past_none y refl)) four (colon_past sp z i (past_none n refl)) four
 
 -- nothing ends an item where a `}` stands
 brace_stop : (p : ℕ) (xs : List ℕ) → begins (125 ∷ []) xs ≡ true → trivia.stop p xs ≡ stop_at 0 p
@@ -364,40 +351,35 @@ brace_past : (s : List ℕ) (p : ℕ) → stands (125 ∷ []) s p ≡ true → R
 brace_past s p e = record { is = rw e; low = omega arith; high = omega (arith, stands_inside (125 ∷ []) s p e) }
 
 module _ {s : List ℕ} {p : ℕ} {g : Went} (sp : Moved s p false g) where
-  pub after_no : {r : Went} → ¬ (g.kind ≡ 0) → r ≡ went 2 p → AfterBy s p r
-  after_no n f = one_neither (more_no sp n) n (closing_no sp n) n f
+  pub after_no : ¬ (g.kind ≡ 0) → AfterBy s p (went 2 p)
+  after_no n = one_neither (more_no sp n) n (closing_no sp n) n
 
   module _ (z : g.kind ≡ 0) where
-    pub after_brace : {r : Went} → stands (125 ∷ []) s g.at ≡ true → r ≡ went 1 (g.at + 1) → AfterBy s p r
-    after_brace h f =
+    pub after_brace : stands (125 ∷ []) s g.at ≡ true → AfterBy s p (went 1 (g.at + 1))
+    after_brace h =
         let c : Comes (then (stopping s g.at) (skip s true)) (went 4 g.at) = record { good = λ y. absurd (four y); bad = λ y. then_none (stopping s g.at) (skip s true) (brace_none s g.at h) } in
-        one_second (more_stuck sp z c four) four (closing_here sp z h refl) refl f
+        one_second (more_stuck sp z c four) four (closing_here sp z h refl) refl
 
-    module _ (h : stands (125 ∷ []) s g.at ≡ false) {x : Stop} (st : Stopped s g.at x) where
-      pub after_none : {r : Went} → ¬ (x.how ≡ 1) → r ≡ went 2 p → AfterBy s p r
-      after_none n f = let c = ended_not st n refl in one_neither (more_stuck sp z c four) four (closing_stuck sp z c h four) four f
+    module _ (h : stands (125 ∷ []) s g.at ≡ false) {x : Stopping} (st : Stopped s g.at x) where
+      pub after_none : ¬ (x.how ≡ 1) → AfterBy s p (went 2 p)
+      after_none n = let c = ended_not st n refl in one_neither (more_stuck sp z c four) four (closing_stuck sp z c h four) four
 
       module _ (e : x.how ≡ 1) {w : Went} (m : Moved s x.at true w) where
-        pub after_gap : {r : Went} → ¬ (w.kind ≡ 0) → r ≡ went 2 p → AfterBy s p r
-        after_gap n f = let c = ended_past st e m in one_neither (more_stuck sp z c n) n (closing_stuck sp z c h n) n f
+        pub after_gap : ¬ (w.kind ≡ 0) → AfterBy s p (went 2 p)
+        after_gap n = let c = ended_past st e m in one_neither (more_stuck sp z c n) n (closing_stuck sp z c h n) n
 
         module _ (y : w.kind ≡ 0) where
-          pub after_shut : {r : Went} → stands (125 ∷ []) s w.at ≡ true → r ≡ went 1 (w.at + 1) → AfterBy s p r
-          after_shut b f =
+          pub after_shut : stands (125 ∷ []) s w.at ≡ true → AfterBy s p (went 1 (w.at + 1))
+          after_shut b =
               let c = ended_past st e m in
-              one_second (more_brace sp z c y b refl) four (closing_past sp z c h y (brace_past s w.at b) (past_some (λ q. omega (arith, q)) refl)) refl f
+              one_second (more_brace sp z c y b refl) four (closing_past sp z c h y (brace_past s w.at b) (past_some (λ q. omega (arith, q)) refl)) refl
 
-          pub after_more : stands (125 ∷ []) s w.at ≡ false → AfterBy s p w
+          pub after_more : stands (125 ∷ []) s w.at ≡ false → AfterBy s p (went 0 w.at)
           after_more b = one_first (more_here sp z (ended_past st e m) y b) y
 
 -- ---- by its number
 
 module _ {s : List ℕ} {left : ℕ} {lines : Bool} {a p : ℕ} {r : Went} where
-  pub gone_low : a < 200 → Walked s left lines a p r → GoneAt s left lines a p r
-  gone_low h w =
-      let z : move_in a ≡ move_at a = rw (lt-ltb a 200 h) in
-      record { good = λ y σ v k. rw z (ap place (w.good y σ v)); bad = λ y σ v k. rw z (ap place (w.bad y σ v)) }
-
   at : (n : ℕ) → a ≡ n → GoneAt s left lines n p r → GoneAt s left lines a p r
   at n e h = rw e h
 
@@ -408,28 +390,3 @@ module _ {s : List ℕ} {left : ℕ} {lines : Bool} {a p : ℕ} {r : Went} where
   pub gone_bang : a ≡ 201 → Comes (opening s left (33 ∷ []) ((33 ∷ 61 ∷ []) ∷ []) p) r → GoneAt s left lines a p r
   unfolding walk atom
   gone_bang e w = at 201 e (record { good = λ y σ v k. rw (w.good y); bad = λ y σ v k. then_none (opening s left (33 ∷ []) ((33 ∷ 61 ∷ []) ∷ []) p) to (w.bad y) })
-
-  goes_at : {m : Move} → move_in a ≡ m → Goes s m p r → GoneAt s left lines a p r
-  goes_at e g = record { good = λ y σ v k. rw e (g.good y (under left lines v) σ k); bad = λ y σ v k. rw e (g.bad y (under left lines v) σ k) }
-
-  pub gone_equals : a ≡ 202 → Goes s (own_move 2) p r → GoneAt s left lines a p r
-  gone_equals e g = goes_at (ap move_in e) g
-
-  pub gone_colon : a ≡ 203 → Goes s (own_move 3) p r → GoneAt s left lines a p r
-  gone_colon e g = goes_at (ap move_in e) g
-
-  pub gone_more : a ≡ 204 → Goes s (own_move 4) p r → GoneAt s left lines a p r
-  gone_more e g = goes_at (ap move_in e) g
-
-  pub gone_last : 200 ≤ a → (a ≡ 200 → ⊥) → (a ≡ 201 → ⊥) → (a ≡ 202 → ⊥) → (a ≡ 203 → ⊥) → (a ≡ 204 → ⊥) → Goes s (own_move 5) p r → GoneAt s left lines a p r
-  gone_last h n0 n1 n2 n3 n4 g =
-      goes_at
-      (rw (
-        le-ltb a 200 h,
-        ne_eqb (a - 200) 0 (λ e. n0 (omega arith)),
-        ne_eqb (a - 200) 1 (λ e. n1 (omega arith)),
-        ne_eqb (a - 200) 2 (λ e. n2 (omega arith)),
-        ne_eqb (a - 200) 3 (λ e. n3 (omega arith)),
-        ne_eqb (a - 200) 4 (λ e. n4 (omega arith)),
-      ))
-      g

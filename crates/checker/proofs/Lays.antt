@@ -1,4 +1,5 @@
 -- A layout under way over a row's children: what holds whenever the loop of `lay` begins a turn, and what each instruction does.
+use Rattle.grammar.specs.Said.{Went}
 use Prim.Native.Nat.{ℕ, ◌+◌, ◌≤◌, ◌<◌}
 use mathlib.Core.Path.{◌≡◌, refl, sym, ap, subst, ◌∙◌}
 use mathlib.Core.Bool.{Bool, true, false, ◌&&◌}
@@ -19,15 +20,13 @@ use Rattle.engine.specs.BaseLaws.{and_t, or_t, has_all, some_is}
 use Rattle.engine.specs.Layout.{bad, fin, move, kid, fork, rep}
 use Rattle.engine.specs.Rule.{rfin, rmove, rkid, ryes, rno, rrep, rend}
 use Rattle.grammar.specs.declared.shape.Instr.{Instr}
-use Rattle.grammar.specs.declared.moves.Went.{Went}
 use Rattle.grammar.specs.Moves.{Want, Under, Move, place, walk, keys_of, lones, same}
 use Rattle.grammar.specs.Layouts.{Class, inside, single, key, value, test, branch, term, right, entry, called, portion, piecewise, filter, Layout, layout_of}
 use Rattle.grammar.specs.Hcl.{hcl, under, downs, fits, styles}
 use Rattle.grammar.specs.Published.{Depth, depth_of, want_of, want_as}
 use Rattle.grammar.specs.Code.{operation, argument, class, otherwise}
-use Rattle.checker.specs.declared.pass.Passed.{Passed}
 use Rattle.checker.specs.Rows.{row_at, rec_at}
-use Rattle.checker.specs.Family.{Chain}
+use Rattle.checker.specs.Family.{Chain, Linked}
 use Rattle.checker.specs.Program.{code_in, move_in, class_in, Codes, All, begin_in, laid_out, right_coded, instructions, ahead, all_ahead, fitting, all_fitting, is_entry, itemed, all_itemed}
 use Rattle.checker.specs.Leaf.{InstrAt, GoneAt}
 use Rattle.checker.specs.declared.lone.Lone.{Lone}
@@ -35,7 +34,7 @@ use Rattle.index.specs.declared.mark.Token.{Token}
 use Rattle.index.specs.Mark.{TokenHere}
 use Rattle.checker.specs.Lone.{signed, Behind}
 use Rattle.checker.specs.Child.{kidded, ChildBy}
-use Rattle.checker.specs.Lay.{coded, depths_at, Both, KeysOf, Passing, PassedBy, Filled, Over, EndsAt, Laying, Children, LaidBy}
+use Rattle.checker.specs.Lay.{coded, depths_at, Both, KeysOf, Passing, Passed, PassedBy, Filled, Over, EndsAt, Laying, Children, LaidBy}
 use Rattle.checker.proofs.Overs.{AtKid, over_fin, over_kid, over_move, over_yes, over_no, over_rep, over_end}
 
 -- ---- small laws
@@ -116,6 +115,9 @@ chain_same m i (x ∷ js) (y ∷ ks) j (e, up, far, c) (e', up', far', d) = let 
 pub chain_le : (m : List ℕ) (i : ℕ) (js : List ℕ) (j : ℕ) → Chain m i js j → j ≤ i
 chain_le m i [] j c = omega arith
 chain_le m i (x ∷ js) j (e, up, far, c) = omega arith
+
+pub linked_low : {m : List ℕ} {i j : ℕ} → Linked m i j → ¬ (j ≡ i) → j < i
+linked_low {m} {i} {j} h n = omega (arith, n, chain_le m i h.js j h.chain)
 
 -- a chain that goes on has a row
 pub record Next (m : List ℕ) (i : ℕ) (js : List ℕ) (j : ℕ) : Type 0 where

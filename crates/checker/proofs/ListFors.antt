@@ -8,9 +8,8 @@ use Rattle.lexis.specs.Bytes.{Ran}
 use Rattle.lexis.specs.Word.{word_to, for_to, in', if'}
 use Rattle.lexis.specs.Operator.{mark_to}
 use Rattle.engine.specs.Layout.{fin, move, fork}
-use Rattle.grammar.specs.declared.moves.Went.{Went}
 use Rattle.grammar.specs.Layouts.{past, filter_lay, filters_lay}
-use Rattle.grammar.specs.Said.{Moved}
+use Rattle.grammar.specs.Said.{Went, Moved}
 use Rattle.checker.specs.Rows.{row_at}
 use Rattle.checker.specs.Lay.{KidBy, Direct, EndsAt}
 use Rattle.checker.specs.Rest.{RestBy, StepBy, inside_lay}

@@ -9,9 +9,8 @@ use lib.ListN.{length, drop}
 use lib.Dec.{eqb, leb}
 use lib.Seq.{drop-drop}
 use borrow.Author.Tests.{eqb-true, eqb-false, eq-eqb, ne_eqb, leb-true, leb-false}
-use Rattle.lexis.specs.declared.trivia.Gap.{Gap}
 use Rattle.lexis.specs.Bytes.{byte_at, is_space, stands, up_to, Byte, Ran}
-use Rattle.lexis.specs.Trivia.{none, closes, block, item, ends_at, open_at, placed, gap_to}
+use Rattle.lexis.specs.Trivia.{Gap, none, closes, block, item, ends_at, open_at, placed, gap_to}
 use Rattle.lexis.specs.Operator.{is_mark, equals_to}
 use Rattle.lexis.specs.RunLaws.{clash, front, inside, and_left, and_right, stands_one, stands_two, stands_inside, reach, reach_on, reach_stop, reach_end}
 use Rattle.lexis.proofs.Trivias.{block_found, block_endless, item_space, item_block, gap_stop, gap_on}

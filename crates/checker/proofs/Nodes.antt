@@ -1,5 +1,5 @@
 -- The rule at a row, over the children that its counts give.
-use Prim.Native.Nat.{ℕ, ◌%◌, ◌≤◌, ◌<◌}
+use Prim.Native.Nat.{ℕ, ◌+◌, ◌%◌, ◌≤◌, ◌<◌}
 use mathlib.Core.Path.{◌≡◌, refl, sym, ap, subst, ◌∙◌}
 use mathlib.Core.Bool.{Bool, true, false}
 use mathlib.Core.List.{List, [], ◌∷◌, map}
@@ -7,8 +7,7 @@ use native.Mathlib.Omega.{arith}
 use lib.ListN.{get_or}
 use lib.Dec.{eqb, T}
 use borrow.Author.Tests.{eqb-true, eqb-false, eq-eqb, ne_eqb}
-use Rattle.lexis.specs.declared.heredoc.Opener.{Opener}
-use Rattle.lexis.specs.Heredoc.{opener_at, Opened}
+use Rattle.lexis.specs.Heredoc.{Opener, opener_at, Opened}
 use Rattle.lexis.specs.RunLaws.{clash}
 use Rattle.engine.specs.Base.{Rec, has}
 use Rattle.engine.specs.Rule.{Kids, knil, kcons}
@@ -21,13 +20,11 @@ use Rattle.grammar.specs.Hcl.{under, follow_at}
 use Rattle.grammar.specs.Said.{kind_of, Follow}
 use Rattle.grammar.specs.Published.{Depth, Laid, rule_as, Rule}
 use Rattle.grammar.specs.RuleTable.{kids_same}
-use Rattle.checker.specs.declared.node.Left.{Left}
 use Rattle.checker.specs.Rows.{row_at, rows, rec_at}
 use Rattle.checker.specs.Family.{Linked, Family}
 use Rattle.checker.specs.Leaf.{kinds_by, FirstAt}
 use Rattle.checker.specs.Lay.{coded, depths_at, LaidBy}
 use Rattle.checker.specs.Texts.{Sanes, TextBy}
-use Rattle.checker.specs.declared.single.Look.{Look}
 use Rattle.checker.specs.Node.{RuleBy, SingleBy, LeftAt, no_left, LeftTo, NodeBy}
 use Rattle.checker.proofs.Families.{family_none}
 
@@ -57,14 +54,17 @@ module _ {s t : List ℕ} {i l : ℕ} {lines : Bool} where
       follow : (n : ℕ) → x ≡ kind_of (follow_at s (under n lines an_expression) (row_at t l).end)
       follow n = f n ∙ ap (λ (o : ℕ). kind_of (follow_at s (under n lines an_expression) o)) q
 
-  pub left_to_no : {r : Left} → LeftAt s t i l lines false → r ≡ no_left → LeftTo s t i l lines r
-  left_to_no h e = subst (LeftTo s t i l lines) (sym e) (record { left = h; operates = λ z. clash (sym z) })
+  pub left_to_no : LeftAt s t i l lines false → LeftTo s t i l lines no_left
+  left_to_no h = record { left = h; operates = λ z. clash (sym z) }
 
-  pub left_to : {x : Head} {p : ℕ} → p ≡ (row_at t l).end → NextAt s p lines x → LeftAt s t i l lines (eqb x.kind (row_at t i).kind) → LeftTo s t i l lines (record { good = eqb x.kind (row_at t i).kind; end = x.end })
-  left_to {x} {p} q h f = record {
-    left = f;
+  -- another operator follows, or none
+  pub left_other : {x : ℕ} → ¬ (x ≡ (row_at t i).kind) → LeftAt s t i l lines (eqb x (row_at t i).kind) → LeftTo s t i l lines no_left
+  left_other n f = left_to_no (subst (LeftAt s t i l lines) (ne_eqb _ _ n) f)
+
+  pub left_to : {x : Head} {p : ℕ} → x.kind ≡ (row_at t i).kind → p ≡ (row_at t l).end → NextAt s p lines x → LeftAt s t i l lines (eqb x.kind (row_at t i).kind) → LeftTo s t i l lines (record { good = true; end = x.end })
+  left_to {x} {p} e q h f = record {
+    left = subst (LeftAt s t i l lines) (eq-eqb _ _ e) f;
     operates = λ z n.
-        let e : x.kind ≡ (row_at t i).kind = eqb-true x.kind (row_at t i).kind z in
         let m : x.end ≡ p → ⊥ = λ y. n (y ∙ q) in
         record {
           goes = λ left σ w. subst (λ (o : ℕ). walk s (under left lines w) σ (gap here ∷ operator o ∷ []) (row_at t l).end ≡ to x.end) e (subst (λ (o : ℕ). walk s (under left lines w) σ (gap here ∷ operator x.kind ∷ []) o ≡ to x.end) q (h.operates m left σ w));
@@ -114,8 +114,8 @@ module _ (s text t : List ℕ) (i : ℕ) (D : List ℕ) where
   of_laid : (rs : List (Rec ℕ)) (ds : List Depth) (d : Depth) → ¬ (kind ≡ 9) → Laid s d (rec_at t i) rs ds → Rule s d (rec_at t i) rs ds
   of_laid rs ds d n r = subst (λ (b : Bool). rule_as b s d (rec_at t i) rs ds) (sym (ne_eqb kind 9 n)) r
 
-  pub node_lost : {m m' : List ℕ} {x : ℕ} → Family t i m m' x → i < x → NodeBy s text t i D D false
-  node_lost {x = x} f l = record {
+  pub node_lost : {m m' : List ℕ} → Family t i m m' (i + 1) → NodeBy s text t i D D false
+  node_lost f = record {
     long = refl;
     lo = 0;
     kids = [];
@@ -126,12 +126,11 @@ module _ (s text t : List ℕ) (i : ℕ) (D : List ℕ) where
     spelt = λ z. clash (sym z);
     word = λ z. clash (sym z);
     only = λ z. clash (sym z);
-    no = λ z lo' js e ks pos sane wd ds r. f.no (λ y. absurd (omega arith)) lo' js e ks pos;
+    no = λ z lo' js e ks pos sane wd ds r. f.no (λ y. omega (arith, y)) lo' js e ks pos;
   }
 
-  pub node_by : {m m' D' : List ℕ} {x own : ℕ} {r : Bool} → ¬ (kind ≡ 9) → Family t i m m' x → ¬ (i < x) → own ≡ get_or D i 0 → RuleBy s text t i m' D D' x own r → NodeBy s text t i D D' r
-  node_by {m} {m'} {D'} {x} {own} {r} n f l o h =
-      let le : x ≤ i = omega arith in
+  pub node_by : {m m' D' : List ℕ} {x own : ℕ} {r : Bool} → ¬ (kind ≡ 9) → Family t i m m' x → x ≤ i → own ≡ get_or D i 0 → RuleBy s text t i m' D D' x own r → NodeBy s text t i D D' r
+  node_by {m} {m'} {D'} {x} {own} {r} n f le o h =
       let h' : RuleBy s text t i m' D D' x (get_or D i 0) r = subst (λ (y : ℕ). RuleBy s text t i m' D D' x y r) o h in
       record {
         long = h'.long;
@@ -151,11 +150,11 @@ module _ (s text t : List ℕ) (i : ℕ) (D : List ℕ) where
       }
 
   -- a row that one look tells
-  pub node_single : (m : List ℕ) {own : ℕ} {lines : Bool} {x : Look} → (row_at t i).count ≡ 1 → own ≡ get_or D i 0 → lines ≡ eqb (own % 2) 1 → SingleBy s t i lines x → x.sure ≡ true → NodeBy s text t i D D x.yes
-  node_single m {own} e o l h y = node_by (h.other y) (family_none t m i e) (λ z. omega (arith, z)) o (h.rule y own l text m D)
+  pub node_single : (m : List ℕ) {own : ℕ} {lines y : Bool} → (row_at t i).count ≡ 1 → own ≡ get_or D i 0 → lines ≡ eqb (own % 2) 1 → SingleBy s t i lines (record { sure = true; yes = y }) → NodeBy s text t i D D y
+  node_single m {own} e o l h = node_by (h.other refl) (family_none t m i e) (omega arith) o (h.rule refl own l text m D)
 
-  pub family_linked : {m m' : List ℕ} {x : ℕ} → Family t i m m' x → ¬ (i < x) → Linked m' i x
-  family_linked f l = record { js = f.kids; chain = f.chain (omega arith) }
+  pub family_linked : {m m' : List ℕ} {x : ℕ} → Family t i m m' x → x ≤ i → Linked m' i x
+  family_linked f l = record { js = f.kids; chain = f.chain l }
 
 -- ---- what was asked with numbers that are equal
 

@@ -9,24 +9,28 @@ use native.Mathlib.Omega.{arith}
 use lib.ListN.{length}
 use Rattle.lexis.specs.Bytes.{Ran}
 use Rattle.lexis.specs.Operator.{mark_to}
-use Rattle.grammar.specs.declared.moves.Went.{Went}
 use Rattle.grammar.specs.Moves.{Under, Move, gap, mark, opens, any, place, walk}
 use Rattle.grammar.specs.Hcl.{under}
-use Rattle.grammar.specs.Said.{went, Moved}
+use Rattle.grammar.specs.Said.{Went, went, Moved}
 use Rattle.grammar.specs.Published.{want_of}
 use Rattle.grammar.specs.Code.{atoms, move_of, operation, argument, class, otherwise}
-use Rattle.checker.specs.declared.pass.Passed.{Passed}
+use Rattle.std.specs.Prelude.{Some}
 use Rattle.checker.specs.declared.lone.Lone.{Lone}
+use Rattle.checker.specs.declared.moves.Onward.{Onward}
 use Rattle.checker.specs.Rows.{row_at}
 use Rattle.checker.specs.Program.{own, own_move, code_in, move_in, begin_in}
-use Rattle.checker.specs.LeafMore.{Goes, AfterBy}
+use Rattle.checker.specs.LeafMore.{Goes, after_from, AfterBy}
 use Rattle.index.specs.declared.mark.Token.{Token}
 use Rattle.index.specs.Mark.{TokenHere}
 use Rattle.checker.specs.Lone.{Behind}
-use Rattle.checker.specs.Lay.{Passing, PassedBy, EndsAt, Laying, LaidBy}
+use Rattle.checker.specs.Lay.{Passing, Passed, PassedBy, EndsAt, Laying, LaidBy}
 use Rattle.checker.proofs.Goings.{open_deep, open_on, open_no, any_on, any_no, shut_on, shut_no}
 use Rattle.checker.proofs.Lays.{no_keys, known, Turn, turn_start, turn_other, turn_passing, lay_kid, lay_kid_no, lay_rep, lay_rep_no, next_of}
 use Rattle.checker.proofs.Directs.{no_op_lem, direct_move, direct_stop, direct_fork, direct_other, direct_end}
+
+-- what comes behind an item, by its variant
+pub after_as : {s : List ℕ} {p : ℕ} {x y : Onward} → x ≡ y → AfterBy s p (after_from p (Some x)) → AfterBy s p (after_from p (Some y))
+after_as {s} {p} e h = subst (λ (o : Onward). AfterBy s p (after_from p (Some o))) e h
 
 record Codes : Type 0 where
   start : begin_in 12 ≡ 245
@@ -129,10 +133,6 @@ module _ (s t : List ℕ) (i left : ℕ) (lines : Bool) (m D : List ℕ) (j p : 
     pub ahead_passing : {K₀ : List ℕ} {k : Token} {r : Lone} → Ahead D' K at x n → Laying t i m D K₀ j left → length K ≡ length K₀ → TokenHere s at k → Behind s k.end r → Passing s t i m D' K x n 7 left at k.mark r.yes
     ahead_passing (inl w) a e f h = turn_passing s t i left lines w a e f h
     ahead_passing (inr (q, w, g)) a e f h = turn_passing s t i left lines w a e f h
-
-    pub ahead_long : Ahead D' K at x n → length D' ≡ length D
-    ahead_long (inl w) = w.long
-    ahead_long (inr (q, w, g)) = w.long
 
     module _ {D'' K' : List ℕ} {r : Passed} (h : PassedBy s t i m D' D'' K K' x n 7 left lines at r) where
       class_as : {c : ℕ} → c ≡ 7 → PassedBy s t i m D' D'' K K' x n c left lines at r

@@ -27,9 +27,6 @@ module _ {t : List ℕ} {i : ℕ} {m D : List ℕ} {j : ℕ} (a : Direct t i m D
   pub direct_up : {n : ℕ} → n ≡ get_or m j 0 → (j < n) × (n ≤ i)
   direct_up e = let y = next_of m i a.js j a.chain l in (omega (arith, y.up, e), omega (arith, y.far, e))
 
-pub onward_start : {s t : List ℕ} {i v : ℕ} {m D : List ℕ} {l : Layout} {j p : ℕ} → Direct t i m D j → Onward s t i v m D l j p D l j p
-onward_start a = record { on = λ D' r o. o; direct = a; long = refl }
-
 -- one more child
 pub onward_on : {s t : List ℕ} {i v : ℕ} {m D₀ : List ℕ} {l₀ : Layout} {j₀ p₀ : ℕ} {D : List ℕ} {l : Layout} {j p : ℕ} {D₁ : List ℕ} {l₁ : Layout} {n q : ℕ} → Onward s t i v m D₀ l₀ j₀ p₀ D l j p → Direct t i m D₁ n → length D₁ ≡ length D
     → ((D' : List ℕ) (r : Bool) → RestBy s t i v m D₁ D' l₁ n q r → RestBy s t i v m D D' l j p r) → Onward s t i v m D₀ l₀ j₀ p₀ D₁ l₁ n q

@@ -1,4 +1,9 @@
 -- A child in its place.
+use denote.Enum.Bare.{sameb}
+use Rattle.grammar.specs.declared.shape.Want as code
+use Rattle.grammar.specs.declared.shape.Want.TheVariants as wants
+use Rattle.grammar.specs.contracts.shape.Want.{the_type}
+use Rattle.grammar.specs.Said.{Child, wanted}
 use Prim.Native.Nat.{ℕ, zero, suc, ◌+◌, ◌/◌, ◌%◌, ◌<◌}
 use mathlib.Core.Path.{◌≡◌, refl, sym, ap, subst, ◌∙◌}
 use mathlib.Core.Bool.{Bool, true, false, cond, not, or-false, ◌&&◌, ◌||◌}
@@ -6,25 +11,21 @@ use mathlib.Core.List.{List, [], ◌∷◌, ◌++◌}
 use native.Mathlib.Omega.{arith}
 use lib.ListN.{length, get_or, set, length-set}
 use lib.Dec.{eqb, T}
-use borrow.Author.Tests.{eqb-true, eqb-false}
+use borrow.Author.Tests.{eqb-true, eqb-false, not-false}
 use Rattle.lexis.specs.Keys.{among, same_key}
-use Rattle.index.specs.Mark.{mark_at}
 use Rattle.index.specs.Index.{Indexed, Inserted}
 use Rattle.index.specs.Index as index
 use Rattle.lexis.specs.RunLaws.{clash}
 use Rattle.engine.specs.Base.{Rec, has}
-use Rattle.grammar.specs.declared.shape.Child.{Child}
 use Rattle.grammar.specs.Kinds.{tight_of}
 use Rattle.grammar.specs.Moves.{Want, an_expression, lone, lones}
 use Rattle.grammar.specs.Layouts.{Class, entry}
 use Rattle.grammar.specs.Hcl.{under, downs, styles, starts}
 use Rattle.grammar.specs.Published.{depth, kinds_of, More}
-use Rattle.checker.specs.declared.pass.Met.{Met}
-use Rattle.checker.specs.declared.pass.Passed.{Passed}
 use Rattle.checker.specs.Rows.{row_at, rec_at}
 use Rattle.checker.specs.Program.{class_in}
 use Rattle.checker.specs.Leaf.{kinds_by, ChildAt}
-use Rattle.checker.specs.Lay.{coded, Both, KeysOf, SuitsAt, KidBy, MetAt, no_pass, PassedBy, EndsAt}
+use Rattle.checker.specs.Lay.{coded, Both, KeysOf, SuitsAt, Met, MetAt, no_pass, PassedBy, EndsAt}
 
 -- ---- the end of a row
 
@@ -46,24 +47,8 @@ not_t true e h = clash e
 not_t false e h = h
 
 module _ {t : List ℕ} {j at n w : ℕ} where
-  pub suits_no : ((row_at t j).start ≡ at → (row_at t j).start < (row_at t j).end → n < tight_of (row_at t j).kind → T (has (kinds_by w) (row_at t j).kind) → ⊥) → SuitsAt t j at n w false
-  suits_no f = record { start = λ z. clash (sym z); bound = λ z. clash (sym z); kind = λ z. clash (sym z); no = λ z. f }
-
   pub suits_by : {r : Bool} → r ≡ has (kinds_by w) (row_at t j).kind → (row_at t j).start ≡ at → n < tight_of (row_at t j).kind → SuitsAt t j at n w r
   suits_by e a b = record { start = λ z. a; bound = λ z. b; kind = λ z. is_t _ (sym e ∙ z); no = λ z c d f g. not_t _ (sym e ∙ z) g }
-
--- ---- a child that is no item
-
-module _ {t : List ℕ} {i : ℕ} {D : List ℕ} {j at n w v : ℕ} where
-  pub kid_none : j ≡ i → KidBy t i D D j at n w v false
-  kid_none e = record { inside = λ z. clash (sym z); suits = λ z. clash (sym z); put = λ z. clash (sym z); still = λ z. refl; no = λ z l. absurd (omega arith); long = refl }
-
-  module _ {r : Bool} (h : SuitsAt t j at n w r) where
-    pub kid_not : r ≡ false → KidBy t i D D j at n w v false
-    kid_not e = record { inside = λ z. clash (sym z); suits = λ z. clash (sym z); put = λ z. clash (sym z); still = λ z. refl; no = λ z l. subst (SuitsAt t j at n w) e h; long = refl }
-
-    pub kid_yes : r ≡ true → j < i → KidBy t i D (set D j v) j at n w v true
-    kid_yes e l = record { inside = λ z. l; suits = λ z. subst (SuitsAt t j at n w) e h; put = λ z. refl; still = λ z. clash z; no = λ z. clash z; long = length-set D j v }
 
 -- ---- its key
 
@@ -97,6 +82,22 @@ lones_no s x ks e = rw e
 abbrev met : Bool → ℕ → Met
 met b n = record { met = b; keys = n }
 
+-- what a derived `!=` says of an item's want
+item_as : (w : code.Want) → not (sameb the_type w wants.Item) ≡ not (eqb (wanted w) 4)
+item_as wants.Expression = refl
+item_as wants.Name = refl
+item_as wants.Part = refl
+item_as wants.Condition = refl
+item_as wants.Item = refl
+item_as wants.Key = refl
+
+module _ {b : Bool} (w : code.Want) (e : b ≡ not (sameb the_type w wants.Item)) where
+  pub item_no : b ≡ true → ¬ (wanted w ≡ 4)
+  item_no f g = clash (sym f ∙ e ∙ item_as w ∙ ap (λ (x : ℕ). not (eqb x 4)) g)
+
+  pub item_yes : b ≡ false → wanted w ≡ 4
+  item_yes f = eqb-true (wanted w) 4 (not-false _ (sym (item_as w) ∙ sym e ∙ f))
+
 module _ (s K : List ℕ) (n p w : ℕ) (ix : Indexed s K 0 n) where
   pub met_other : ¬ (w ≡ 4) → MetAt s K K n p w (met false n)
   met_other f = record { long = refl; few = omega arith; indexed = λ z. ix; new = λ z e. absurd (f e); old = λ z. clash (sym z); kept = λ z e. absurd (f e) }
@@ -111,18 +112,10 @@ module _ (s K : List ℕ) (n p w : ℕ) (ix : Indexed s K 0 n) where
     kept = λ z f ks x g k y. k y ∙ ap (λ (o : List ℕ). among s o y) (sym (lones_no s x ks (ap (lone s) g ∙ e)));
   }
 
-  not_both : (a b : Bool) → a ≡ true → b ≡ true → T (not (a && b)) → ⊥
-  not_both true true e f h = h
-  not_both true false e f h = clash (sym f)
-  not_both false b e f h = clash (sym e)
-
   no_both : (a b : Bool) → b ≡ false → T (not (a && b))
   no_both true true e = clash e
   no_both true false e = tt
   no_both false b e = tt
-
-  pub met_old : w ≡ 4 → lone s p ≡ true → among s (index.starts K 0 n) p ≡ true → MetAt s K K n p w (met true n)
-  met_old f e g = record { long = refl; few = omega arith; indexed = λ z. clash z; new = λ z. clash z; old = λ z. (f, λ ks k. not_both (lone s p) (among s (lones s (starts ks)) p) e (sym (k p) ∙ g)); kept = λ z. clash z }
 
   pub met_new : {K' : List ℕ} → Inserted s K K' 0 n p → lone s p ≡ true → among s (index.starts K 0 n) p ≡ false → MetAt s K K' n p w (met false (n + 1))
   met_new l e g = record {
@@ -135,13 +128,6 @@ module _ (s K : List ℕ) (n p w : ℕ) (ix : Indexed s K 0 n) where
         ap (λ (o : List ℕ). among s o y) l.starts ∙ among_snoc s (index.starts K 0 n) p y ∙ ap (λ (o : Bool). o || same_key s p y) (k y) ∙ or_swap (among s (lones s (starts ks)) y) (same_key s p y)
         ∙ ap (λ (o : ℕ). same_key s o y || among s (lones s (starts ks)) y) (sym h) ∙ sym (among_cons s (lones s (starts ks)) x.start y) ∙ ap (λ (o : List ℕ). among s o y) (sym (lones_yes s x ks (ap (lone s) h ∙ e)));
   }
-
--- an item's key is looked at where its place is
-pub meet_told : (s : List ℕ) {t : List ℕ} {j at n w c left : ℕ} {lines a r : Bool} {y : Child} → (class_in c ≡ entry → a ≡ lone s at) → ChildAt c left lines y → SuitsAt t j at n w r → r ≡ true → y.want ≡ 4 → a ≡ lone s (row_at t j).start
-meet_told s f h g e z = f (h.item z) ∙ ap (lone s) (sym (g.start e))
-
-pub meet_key : (s : List ℕ) {t : List ℕ} {j at n w c left m : ℕ} {lines r : Bool} {y : Child} → (class_in c ≡ entry → m ≡ mark_at s at) → ChildAt c left lines y → SuitsAt t j at n w r → r ≡ true → y.want ≡ 4 → m ≡ mark_at s (row_at t j).start
-meet_key s f h g e z = f (h.item z) ∙ ap (mark_at s) (sym (g.start e))
 
 -- ---- a depth in one number
 
@@ -162,36 +148,34 @@ item_want (suc (suc (suc (suc (suc n))))) h = absurd h
 
 module _ (s t : List ℕ) (i : ℕ) (m D K : List ℕ) (j n c left : ℕ) (lines : Bool) (at : ℕ) where
   -- it is not one
-  pub pass_no : {K' : List ℕ} {r : Passed} → r ≡ no_pass n → length K' ≡ length K
+  pub pass_no : {K' : List ℕ} → length K' ≡ length K
       → (j < i → (row_at t j).start ≡ at → (row_at t j).start < (row_at t j).end → (w : Want) (σ : ℕ) (ks : List (Rec ℕ)) → (class_in c ≡ entry → KeysOf s K n ks) → Both s (downs s (under left lines w) (class_in c) σ ks) (class_in c) (rec_at t j) → ⊥)
-      → PassedBy s t i m D D K K' j n c left lines at r
-  pass_no {r = r} e l f =
-      let g : r.good ≡ false = ap (λ (x : Passed). x.good) e in
-      record {
-        long = refl;
-        room = l;
-        few = rw e (omega arith);
-        indexed = λ z. clash (sym z ∙ g);
-        still = λ z. refl;
-        inside = λ z. clash (sym z ∙ g);
-        start = λ z. clash (sym z ∙ g);
-        end = λ z. clash (sym z ∙ g);
-        next = λ z. clash (sym z ∙ g);
-        value = 0;
-        put = λ z. clash (sym z ∙ g);
-        told = λ z. clash (sym z ∙ g);
-        both = λ z. clash (sym z ∙ g);
-        kept = λ z. clash (sym z ∙ g);
-        no = λ z. f;
-      }
+      → PassedBy s t i m D D K K' j n c left lines at (no_pass n)
+  pass_no l f = record {
+    long = refl;
+    room = l;
+    few = omega arith;
+    indexed = λ z. clash (sym z);
+    still = λ z. refl;
+    inside = λ z. clash (sym z);
+    start = λ z. clash (sym z);
+    end = λ z. clash (sym z);
+    next = λ z. clash (sym z);
+    value = 0;
+    put = λ z. clash (sym z);
+    told = λ z. clash (sym z);
+    both = λ z. clash (sym z);
+    kept = λ z. clash (sym z);
+    no = λ z. f;
+  }
 
   module _ {y : Child} (h : ChildAt c left lines y) where
     -- what is tested of its kind, and what is asked
     pub kinds_in : (w : Want) (σ : ℕ) (ks : List (Rec ℕ)) (x : Rec ℕ) → Both s (downs s (under left lines w) (class_in c) σ ks) (class_in c) x → (y.bound < tight_of x.kind) × T (has (kinds_by y.want) x.kind)
     kinds_in w σ ks x (b, u) = (omega (arith, b, h.bound), subst (λ (o : List ℕ). T (has o x.kind)) (h.kinds s w σ ks) u.kind)
 
-    pub pass_suits : {b : Bool} {r : Passed} → SuitsAt t j at y.bound y.want b → b ≡ false → r ≡ no_pass n → PassedBy s t i m D D K K j n c left lines at r
-    pass_suits v z e = pass_no e refl (λ l a f w σ ks k b. let (p, q) = kinds_in w σ ks (rec_at t j) b in v.no z a f p q)
+    pub pass_suits : {b : Bool} → SuitsAt t j at y.bound y.want b → b ≡ false → PassedBy s t i m D D K K j n c left lines at (no_pass n)
+    pass_suits v z = pass_no refl (λ l a f w σ ks k b. let (p, q) = kinds_in w σ ks (rec_at t j) b in v.no z a f p q)
 
     -- more is asked of an item alone
     more_in : {K' : List ℕ} {x : Met} → MetAt s K K' n (row_at t j).start y.want x → x.met ≡ false → (w : Want) (σ : ℕ) (ks : List (Rec ℕ)) → (class_in c ≡ entry → KeysOf s K n ks) → More s (downs s (under left lines w) (class_in c) σ ks).want (rec_at t j)
@@ -204,22 +188,22 @@ module _ (s t : List ℕ) (i : ℕ) (m D K : List ℕ) (j n c left : ℕ) (lines
             subst (λ (o : Class). More s (downs s (under left lines w) o σ ks).want (rec_at t j)) (sym g) (v.new z f ks (k g))
         go false e = h.plain (eqb-false y.want 4 e) s w σ ks (rec_at t j)
 
-    pub pass_met : {K' : List ℕ} {x : Met} {r : Passed} → MetAt s K K' n (row_at t j).start y.want x → x.met ≡ true → r ≡ no_pass n → PassedBy s t i m D D K K' j n c left lines at r
-    pass_met v z e =
-        pass_no e v.long
+    pub pass_met : {K' : List ℕ} → MetAt s K K' n (row_at t j).start y.want (met true n) → PassedBy s t i m D D K K' j n c left lines at (no_pass n)
+    pass_met v =
+        pass_no v.long
         (λ l a f w σ ks k b.
-        let (q, f') = v.old z in
+        let (q, f') = v.old refl in
         let g = h.item q in
         f' ks (k g) (subst (λ (o : Class). More s (downs s (under left lines w) o σ ks).want (rec_at t j)) g b.1.more))
 
-    pub pass_yes : {b : Bool} {K' : List ℕ} {x : Met} {v : ℕ} {r : Passed} → SuitsAt t j at y.bound y.want b → b ≡ true → MetAt s K K' n (row_at t j).start y.want x → x.met ≡ false → j < i → v ≡ y.left + y.left + cond y.lines 1 0
-        → (row_at t j).end ≡ r.end → get_or m j 0 ≡ r.next → r.keys ≡ x.keys → r.good ≡ true → PassedBy s t i m D (set D j v) K K' j n c left lines at r
-    pass_yes {K' = K'} {x} {v} {r} u z k f l p a b q g = record {
+    pub pass_yes : {b : Bool} {K' : List ℕ} {o v e q : ℕ} → SuitsAt t j at y.bound y.want b → b ≡ true → MetAt s K K' n (row_at t j).start y.want (met false o) → j < i → v ≡ y.left + y.left + cond y.lines 1 0
+        → (row_at t j).end ≡ e → get_or m j 0 ≡ q → PassedBy s t i m D (set D j v) K K' j n c left lines at (record { good = true; end = e; next = q; keys = o })
+    pass_yes {v = v} u z k l p a b = record {
       long = length-set D j v;
       room = k.long;
-      few = omega (arith, k.few);
-      indexed = λ z. subst (Indexed s K' 0) (sym q) (k.indexed f);
-      still = λ z. clash (sym g ∙ z);
+      few = k.few;
+      indexed = λ z. k.indexed refl;
+      still = λ z. clash z;
       inside = λ z. l;
       start = λ o. u.start z;
       end = λ z. a;
@@ -227,9 +211,9 @@ module _ (s t : List ℕ) (i : ℕ) (m D K : List ℕ) (j n c left : ℕ) (lines
       value = v;
       put = λ z. refl;
       told = λ o w σ n ks. coded_packed v y.left y.lines p ∙ rw (h.left s w σ ks, h.lines s w σ ks);
-      both = λ o w σ ks e. (omega (arith, u.bound z, h.bound), record { kind = subst (λ (o : List ℕ). T (has o (row_at t j).kind)) (sym (h.kinds s w σ ks)) (u.kind z); more = more_in k f w σ ks e });
-      kept = λ o ks e c. subst (λ (o : ℕ). KeysOf s K' o (rec_at t j ∷ ks)) (sym q) (k.kept f (want_item e) ks (rec_at t j) refl c);
-      no = λ z. clash (sym g ∙ z);
+      both = λ o w σ ks e. (omega (arith, u.bound z, h.bound), record { kind = subst (λ (o : List ℕ). T (has o (row_at t j).kind)) (sym (h.kinds s w σ ks)) (u.kind z); more = more_in k refl w σ ks e });
+      kept = λ o ks e c. k.kept refl (want_item e) ks (rec_at t j) refl c;
+      no = λ z. clash z;
     }
       where
         want_item : class_in c ≡ entry → y.want ≡ 4

@@ -1,5 +1,5 @@
 -- The program: where a kind's begins, its instructions, what a child is under, what fits.
-use Prim.Native.Nat.{ℕ, zero, suc, ◌-◌, ◌/◌, ◌%◌, ◌≤◌, ◌<◌}
+use Prim.Native.Nat.{ℕ, zero, suc, ◌-◌, ◌%◌, ◌≤◌, ◌<◌}
 use mathlib.Core.Path.{◌≡◌, refl, sym, ap, ◌∙◌}
 use mathlib.Core.List.{List}
 use mathlib.Core.Bool.{Bool, true, false}
@@ -7,19 +7,14 @@ use native.Mathlib.Omega.{arith}
 use lib.ListN.{get_or-eq_default}
 use lib.Dec.{T, eqb, leb}
 use borrow.Author.Tests.{ne_eqb, eqb-true, lt-ltb, le-ltb, leb-true, leb-false}
-use Rattle.engine.specs.Base.{Rec, all_of, has}
+use Rattle.engine.specs.Base.{all_of, has}
 use Rattle.grammar.specs.declared.shape.Instr.{Instr}
-use Rattle.grammar.specs.declared.shape.Child.{Child}
-use Rattle.grammar.specs.Code.{code, operation, argument, class, otherwise, begin, class_of}
+use Rattle.grammar.specs.Code.{code, operation, argument, class, otherwise, begin}
 use Rattle.grammar.specs.Kinds.{tights, tight_of}
-use Rattle.grammar.specs.Moves.{Want, Under}
-use Rattle.grammar.specs.Layouts.{Class}
-use Rattle.grammar.specs.Hcl.{under, downs, bounds}
-use Rattle.grammar.specs.Published.{kinds_of, More}
-use Rattle.grammar.specs.Said.{Instructed, ChildOf, want_of}
-use Rattle.checker.specs.Program.{code_in, class_in, begin_in}
+use Rattle.grammar.specs.Said.{Child, Instructed}
+use Rattle.checker.specs.Program.{code_in, begin_in}
 use Rattle.checker.specs.Leaf.{InstrAt, kinds_by, ChildAt}
-use Rattle.checker.specs.LeafMore.{word_in, Shared, seats, seat_of, bit_of, sits_as}
+use Rattle.checker.specs.LeafMore.{word_in, seats, seat_of, sits_as}
 use Rattle.checker.proofs.Tables.{agree, agreed, unlisted}
 
 -- ---- starts
@@ -64,68 +59,6 @@ module _ (left : ℕ) (lines : Bool) {c : ℕ} where
   pub child_value : c ≡ 3 → ChildAt c left lines (child left lines 0 0)
   child_value e = at 3 e (record { left = λ s w σ ks. refl; lines = λ s w σ ks. refl; bound = refl; kinds = λ s w σ ks. refl; item = λ z. absurd (omega arith); plain = λ n s w σ ks x. tt; fewer = omega arith })
 
-  module _ {d : ℕ} (less : d ≡ left - 1) where
-    pub child_term : c ≡ 6 → ChildAt c left lines (child d lines 7 0)
-    child_term e = at 6 e (record { left = λ s w σ ks. sym less; lines = λ s w σ ks. refl; bound = refl; kinds = λ s w σ ks. refl; item = λ z. absurd (omega arith); plain = λ n s w σ ks x. tt; fewer = omega arith })
-
-    pub child_entry : c ≡ 7 → ChildAt c left lines (child d false 8 4)
-    child_entry e = at 7 e (record { left = λ s w σ ks. sym less; lines = λ s w σ ks. refl; bound = refl; kinds = λ s w σ ks. refl; item = λ z. refl; plain = λ n. absurd (n refl); fewer = omega arith })
-
--- grammar's wants by their numbers
-kinds_as : (w : ℕ) → w ≤ 3 → kinds_of (want_of w) 0 ≡ kinds_by w
-kinds_as zero h = refl
-kinds_as (suc zero) h = refl
-kinds_as (suc (suc zero)) h = refl
-kinds_as (suc (suc (suc zero))) h = refl
-kinds_as (suc (suc (suc (suc w)))) h = absurd (omega arith)
-
-more_as : (s : List ℕ) (w : ℕ) (x : Rec ℕ) → More s (want_of w) x
-more_as s zero x = tt
-more_as s (suc zero) x = tt
-more_as s (suc (suc zero)) x = tt
-more_as s (suc (suc (suc w))) x = tt
-
--- from a condition's want on
-want_high : (w : ℕ) → 3 ≤ w → want_of w ≡ want_of 3
-want_high zero h = absurd (omega arith)
-want_high (suc zero) h = absurd (omega arith)
-want_high (suc (suc zero)) h = absurd (omega arith)
-want_high (suc (suc (suc w))) h = refl
-
-pub shared_low : {c left : ℕ} {lines : Bool} {r : Child} → ChildOf c left lines r → r.want < 3 → Shared c left lines r
-shared_low h l = record { is = h; known = omega arith }
-
-pub shared_high : {c left : ℕ} {lines : Bool} {r : Child} → ChildOf c left lines r → 3 ≤ r.want → Shared c left lines (child r.left r.lines r.bound 3)
-shared_high {c} {left} {lines} {r} h l = record {
-  is = record {
-    down = λ s w σ ks. h.down s w σ ks ∙ ap (under r.left r.lines) (want_high r.want l);
-    bound = h.bound;
-    plain = h.plain;
-    fewer = h.fewer;
-    small = h.small;
-    loose = λ t z. absurd (omega arith);
-  };
-  known = omega arith;
-}
-
-pub child_shared : {c left : ℕ} {lines : Bool} {r : Child} → (c ≡ 2 → ⊥) → (c ≡ 3 → ⊥) → (c ≡ 6 → ⊥) → (c ≡ 7 → ⊥) → Shared c left lines r → ChildAt c left lines r
-child_shared {c} {left} {lines} {r} n2 n3 n6 n7 h =
-    record {
-      left = λ s w σ ks. ap (λ (k : Class). (downs s (under left lines w) k σ ks).left) same ∙ ap (λ (x : Under). x.left) (h.is.down s w σ ks);
-      lines = λ s w σ ks. ap (λ (k : Class). (downs s (under left lines w) k σ ks).lines) same ∙ ap (λ (x : Under). x.lines) (h.is.down s w σ ks);
-      bound = ap bounds same ∙ h.is.bound;
-      kinds = λ s w σ ks. rw (same, h.is.plain, wanted s w σ ks) (kinds_as r.want h.known);
-      item = λ z. absurd (omega (arith, h.known));
-      plain = λ n s w σ ks x. rw (same, wanted s w σ ks) (more_as s r.want x);
-      fewer = h.is.fewer;
-    }
-  where
-    same : class_in c ≡ class_of c
-    same = rw (ne_eqb c 2 n2, ne_eqb c 3 n3, ne_eqb c 6 n6, ne_eqb c 7 n7)
-
-    wanted : (s : List ℕ) (w : Want) (σ : ℕ) (ks : List (Rec ℕ)) → (downs s (under left lines w) (class_of c) σ ks).want ≡ want_of r.want
-    wanted s w σ ks = ap (λ (x : Under). x.want) (h.is.down s w σ ks)
-
 -- ---- what fits
 
 past : (k : ℕ) → 43 ≤ k → seat_of k ≡ 0
@@ -148,18 +81,6 @@ sits_as_lem (suc (suc (suc (suc (suc w))))) k = by_table (sits_as 5) (kinds_by 5
 
 pub sits_in : {r : Bool} (w k : ℕ) {x : ℕ} → r ≡ sits_as w x → x ≡ seat_of k → r ≡ has (kinds_by w) k
 sits_in w k e f = e ∙ ap (sits_as w) f ∙ sits_as_lem w k
-
--- by the first arms of the match, and by its last
-pub sits_arm : {w n : ℕ} (x : ℕ) → w ≡ n → eqb (x / bit_of n % 2) 1 ≡ sits_as w x
-sits_arm x e = rw e
-
-pub sits_last : (w x : ℕ) → 5 ≤ w → eqb (x / 512 % 2) 1 ≡ sits_as w x
-sits_last zero x h = absurd (omega arith)
-sits_last (suc zero) x h = absurd (omega arith)
-sits_last (suc (suc zero)) x h = absurd (omega arith)
-sits_last (suc (suc (suc zero))) x h = absurd (omega arith)
-sits_last (suc (suc (suc (suc zero)))) x h = absurd (omega arith)
-sits_last (suc (suc (suc (suc (suc w))))) x h = refl
 
 -- how tightly a kind binds stands in its seat
 tight_same : (k : ℕ) → eqb (seat_of k % 16) (tight_of k) ≡ true

@@ -1,4 +1,5 @@
 -- What is left of a layout, by what it begins with.
+use Rattle.grammar.specs.Said.{Child}
 use Prim.Native.Nat.{ℕ, ◌+◌, ◌/◌, ◌%◌, ◌<◌}
 use mathlib.Core.Path.{◌≡◌, refl, sym, ap, subst, ◌∙◌}
 use mathlib.Core.Bool.{Bool, true, false, cond}
@@ -14,7 +15,6 @@ use Rattle.engine.specs.Base.{Rec}
 use Rattle.engine.specs.BaseLaws.{some_is}
 use Rattle.engine.specs.Layout.{fin, move, kid, fork, rep}
 use Rattle.engine.specs.Rule.{rfin, rmove, rkid, ryes, rno, rrep, rend}
-use Rattle.grammar.specs.declared.shape.Child.{Child}
 use Rattle.grammar.specs.Moves.{Under, Move, place, walk}
 use Rattle.grammar.specs.Layouts.{Class, entry, Layout, layout_of}
 use Rattle.grammar.specs.Hcl.{hcl, under, downs, fits, styles}

@@ -1,11 +1,11 @@
 -- What a child of a class is under: its depth in one number.
+use Rattle.grammar.specs.Said.{Child}
 use Prim.Native.Nat.{ℕ, ◌-◌, ◌*◌, ◌/◌, ◌%◌, ◌≤◌}
 use mathlib.Core.Path.{◌≡◌, refl, sym, subst}
 use mathlib.Core.Bool.{Bool, true, false}
 use mathlib.Core.List.{List}
 use native.Mathlib.Omega.{arith}
 use lib.Dec.{eqb, T}
-use Rattle.grammar.specs.declared.shape.Child.{Child}
 use Rattle.grammar.specs.Layouts.{inside, single, test, branch, called, portion, filter}
 use Rattle.grammar.specs.Hcl.{under, fits}
 use Rattle.grammar.specs.Published.{want_of}

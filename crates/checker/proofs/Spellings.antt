@@ -8,10 +8,9 @@ use lib.ListN.{length, drop}
 use lib.Seq.{get_or-drop, drop-drop}
 use lib.Dec.{eqb}
 use borrow.Author.Tests.{ne_eqb}
-use Rattle.lexis.specs.declared.string.Piece.{Piece}
 use Rattle.lexis.specs.Bytes.{begins, stands}
 use Rattle.lexis.specs.Heredoc.{fresh_at}
-use Rattle.lexis.specs.String.{Mode, mode_of, Unit, is, not, unit, unit_in, Text, added, unit_else, text_after, text_at, packed, unpacked, piece_of, UnitHere}
+use Rattle.lexis.specs.String.{Piece, Mode, mode_of, Unit, is, not, unit, unit_in, Text, added, unit_else, text_after, text_at, packed, unpacked, piece_of, UnitHere}
 use Rattle.lexis.specs.RunLaws.{stands_none, stands_cons, stands_one, stands_inside}
 use Rattle.lexis.proofs.Units.{Bytewise, Sound}
 use Rattle.lexis.proofs.Texts.{after, step, stop, in_sound}
@@ -127,9 +126,6 @@ pub record Along (s : List ℕ) (q : Bool) (p end : ℕ) (text : List ℕ) (at i
   pub room : j ≤ at + (length text - at)
   pub ends : (d e : ℕ) → end ≡ p + (text_at (mode_of s q d e) s p).width → end ≡ i + (text_at (mode_of s q d e) s i).width
   pub is : (d e : ℕ) → end ≡ p + (text_at (mode_of s q d e) s p).width → stands (text_at (mode_of s q d e) s i).bytes text j ≡ stands (text_at (mode_of s q d e) s p).bytes text at
-
-pub along_start : (s : List ℕ) (q : Bool) (p end : ℕ) (text : List ℕ) (at : ℕ) → Along s q p end text at p at
-along_start s q p end text at = record { low = omega arith; room = omega arith; ends = λ d e h. h; is = λ d e h. refl }
 
 -- a run with no byte in the source has no text
 none_as : (m : Mode) (f : Bool) (l : List ℕ) → (text_after m f 0 l).width ≡ 0 → (text_after m f 0 l).bytes ≡ []

@@ -9,6 +9,8 @@ use native.Mathlib.Omega.{arith}
 use lib.ListN.{drop}
 use lib.Dec.{eqb, eqb→eq, T}
 use borrow.Author.Tests.{eqb-true, eqb-false}
+use denote.Enum.Bare.{sameb}
+use Rattle.lexis.specs.contracts.string.Why.{the_type}
 use Rattle.lexis.specs.declared.heredoc.Line.{Line}
 use Rattle.lexis.specs.declared.heredoc.Line.TheVariants as line
 use Rattle.lexis.specs.declared.string.Why.{Why}
@@ -35,6 +37,16 @@ place_to (to p) e = ap to (some_is e)
 place_to (no k p) e = absurd (let z : ◌≡◌ {A = ℕ} 0 1 = cc in omega arith)
 
 -- ---- how a text ends
+
+-- what a derived `==` says of an interpolation
+pub broken_as : (y : Why) → sameb the_type y why.Interpolation ≡ is_broken y
+broken_as why.Quote = refl
+broken_as why.Interpolation = refl
+broken_as why.Directive = refl
+broken_as why.Escape = refl
+broken_as why.Closing = refl
+broken_as why.Foreign = refl
+broken_as why.End = refl
 
 pub line_closes : {s w : List ℕ} {q end at : ℕ} → line_at w s q ≡ line.Closes at → LineEnds s w q end (eqb at end)
 line_closes {q = q} {end} {at} e = record { yes = λ z. ap (λ (x : Line). closes_as x q) e ∙ ap to (eqb-true at end z); no = λ z h. eqb-false at end z (to_is (sym (ap (λ (x : Line). closes_as x q) e) ∙ h)) }
@@ -131,9 +143,6 @@ module _ (s : List ℕ) (q d e : ℕ) (plain : Bool) {r : Run} (h : RunHere (mod
     yes = λ y. clash (sym y);
     no = λ y st a σ m p g. clash (sym st ∙ (marks (round s σ) (fresh_at s q) (drop q s)).no (unit_some σ m z));
   }
-
-pub opens_no : {s : List ℕ} {q d e : ℕ} {plain : Bool} → stands (36 ∷ 123 ∷ []) s q ≡ false → OpensAt s q plain d e false
-opens_no z = record { yes = λ y. clash (sym y); no = λ y st. clash (sym st ∙ z) }
 
 -- ---- a piece or an interpolation
 

@@ -7,9 +7,9 @@ use mathlib.Core.List.{List, [], ◌∷◌, map}
 use native.Mathlib.Omega.{arith}
 use lib.Dec.{eqb, T}
 use borrow.Author.Tests.{eqb-true, eq-eqb, ne_eqb}
-use Rattle.lexis.specs.declared.heredoc.Opener.{Opener}
+use mir.Val.{bool_byte}
 use Rattle.lexis.specs.Bytes.{byte_at, stands, is_foreign}
-use Rattle.lexis.specs.Heredoc.{opener_at, opener_word, Opened}
+use Rattle.lexis.specs.Heredoc.{Opener, opener_at, opener_word, Opened}
 use Rattle.lexis.specs.String.{mode_of}
 use Rattle.lexis.specs.RunLaws.{stands_one, stands_two, and_left}
 use Rattle.engine.specs.Base.{Rec}
@@ -32,6 +32,11 @@ use Rattle.checker.specs.Texts.{Sanes, Spelts, Text, TextBy}
 use Rattle.checker.specs.Node.{RuleBy}
 use Rattle.checker.proofs.Overs.{over_move, over_yes, over_no}
 use Rattle.checker.proofs.Heads.{Headed, headed_of, of_headed, rule_no, sort_is, over_kidless}
+
+-- a dash as a number
+pub byte_is : (b : Bool) {x : ℕ} → x ≡ bool_byte b → x ≡ cond b 1 0
+byte_is true e = e
+byte_is false e = e
 
 -- a text comes to the flag of its layout
 text_flag : (s : List ℕ) {b : Under} {σ : ℕ} {ks : List (Rec ℕ)} {n p e φ : ℕ} {rs : List (Rec ℕ)} {bs : List (Under × ℕ)} → Runs (hcl s) (Both s) b σ ks (text_lay n) p e φ rs bs → n ≡ φ

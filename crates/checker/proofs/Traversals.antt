@@ -6,10 +6,9 @@ use mathlib.Core.List.{List, [], ◌∷◌}
 use lib.ListN.{get_or}
 use lib.Dec.{eqb}
 use Rattle.engine.specs.Layout.{fin, kid, rep}
-use Rattle.grammar.specs.declared.moves.Went.{Went}
 use Rattle.grammar.specs.Moves.{gap, parts, here, is_part}
 use Rattle.grammar.specs.Layouts.{Layout, portion, traversal_lay}
-use Rattle.grammar.specs.Said.{Moved}
+use Rattle.grammar.specs.Said.{Went, Moved}
 use Rattle.checker.specs.Rows.{row_at}
 use Rattle.checker.specs.Lay.{KidBy, Direct, EndsAt}
 use Rattle.checker.specs.Rest.{RestBy}

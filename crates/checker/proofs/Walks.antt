@@ -22,9 +22,8 @@ use Rattle.grammar.specs.Moves.{an_expression, a_piece, Under, round}
 use Rattle.grammar.specs.Hcl.{hcl, under, pick_at}
 use Rattle.grammar.specs.Published.{Depth, depth, kinds_of, want_of, style_of, Laid, rule_as, Rule, taken, used, Texted, Holds}
 use Rattle.grammar.specs.RuleTable.{kids_same, count_pos}
-use Rattle.checker.specs.declared.text.Used.{Used}
 use Rattle.checker.specs.Rows.{row_at, rows, rec_at}
-use Rattle.checker.specs.Leaf.{is_grown, Spelt, Placed, Columns}
+use Rattle.checker.specs.Leaf.{Used, is_grown, Spelt, Placed, Columns}
 use Rattle.checker.specs.Lay.{coded, depths_at}
 use Rattle.checker.specs.Texts.{Sane, Sanes, Spelts}
 use Rattle.checker.specs.Node.{Worded, NodeBy}

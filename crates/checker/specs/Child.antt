@@ -2,10 +2,9 @@
 use Rattle.std.specs.Prelude.{ℕ, ◌<◌, ◌≡◌, List, Bool, true, false, length, get_or}
 use Rattle.index.specs.Index.{Indexed}
 use Rattle.grammar.specs.Layouts.{entry}
-use Rattle.checker.specs.declared.pass.Passed.{Passed}
 use Rattle.checker.specs.Rows.{row_at}
 use Rattle.checker.specs.Program.{class_in}
-use Rattle.checker.specs.Lay.{no_pass, PassedBy}
+use Rattle.checker.specs.Lay.{Passed, no_pass, PassedBy}
 
 -- what is passed with the row j, after n keys
 abbrev pub kidded : List ℕ → List ℕ → ℕ → ℕ → Bool → Passed

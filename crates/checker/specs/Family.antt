@@ -1,5 +1,5 @@
 -- The children of a row, found by their counts from the right, and the links between them.
-use Rattle.std.specs.Prelude.{ℕ, suc, ◌+◌, ◌*◌, ◌≤◌, ◌<◌, ◌≡◌, List, [], ◌∷◌, length, get_or}
+use Rattle.std.specs.Prelude.{ℕ, suc, ◌+◌, ◌*◌, ◌≤◌, ◌<◌, ◌≡◌, List, [], ◌∷◌, length, get_or, Option, Some, None}
 use Rattle.engine.specs.Rule.{Kids}
 use Rattle.checker.specs.Rows.{row_at, rows}
 
@@ -18,6 +18,11 @@ Chain m i (x ∷ xs) j = (x ≡ j) × (j < get_or m j 0) × (get_or m j 0 ≤ i)
 pub record Linked (m : List ℕ) (i j : ℕ) : Type 0 where
   pub js : List ℕ
   pub chain : Chain m i js j
+
+-- a row of a first child as a number, and i + 1 for none
+abbrev pub family_from : ℕ → Option ℕ → ℕ
+family_from i None = i + 1
+family_from i (Some j) = j
 
 -- `r` is the row of the first child of the row i, or i where it has none; then its children are linked. More than i: no children by their counts
 pub record Family (t : List ℕ) (i : ℕ) (m m' : List ℕ) (r : ℕ) : Type 0 where

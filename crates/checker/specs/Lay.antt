@@ -1,5 +1,5 @@
 -- A layout laid over the children of a row: what the code of it promises.
-use Rattle.std.specs.Prelude.{ℕ, ◌+◌, ◌*◌, ◌/◌, ◌%◌, ◌≤◌, ◌<◌, ◌≡◌, List, [], ◌∷◌, map, Bool, true, false, not, ◌&&◌, length, get_or, set, T, eqb}
+use Rattle.std.specs.Prelude.{ℕ, ◌+◌, ◌*◌, ◌/◌, ◌%◌, ◌≤◌, ◌<◌, ◌≡◌, List, [], ◌∷◌, map, Bool, true, false, not, ◌&&◌, length, get_or, set, T, eqb, Option, Some, None}
 use Rattle.lexis.specs.Keys.{among}
 use Rattle.index.specs.Index.{Indexed}
 use Rattle.index.specs.Index as index
@@ -11,8 +11,7 @@ use Rattle.grammar.specs.Moves.{Want, Under, to, gap, here, operator, walk, lone
 use Rattle.grammar.specs.Layouts.{Class, entry, Layout, layout_of, operator_lay}
 use Rattle.grammar.specs.Hcl.{hcl, under, downs, bounds, styles, starts}
 use Rattle.grammar.specs.Published.{Depth, depth, depth_of, want_of, Suits}
-use Rattle.checker.specs.declared.pass.Met.{Met}
-use Rattle.checker.specs.declared.pass.Passed.{Passed}
+use Rattle.checker.specs.declared.pass.Passed.{Passed as Right}
 use Rattle.checker.specs.Rows.{row_at, rec_at}
 use Rattle.checker.specs.Family.{Chain}
 use Rattle.checker.specs.Program.{class_in, laid_out}
@@ -65,6 +64,16 @@ pub record Meeting (s K : List ℕ) (n : ℕ) : Type 0 where
   pub room : 4 * n + 4 ≤ length K
   pub few : n ≤ 65535
 
+-- whether a key was met before, and how many are kept with it
+pub record Met : Type 0 where
+  pub met : Bool
+  pub keys : ℕ
+
+-- the same as the code has it, after n keys
+abbrev pub met_from : ℕ → Option ℕ → Met
+met_from n None = record { met = true; keys = n }
+met_from n (Some k) = record { met = false; keys = k }
+
 -- `r` says whether the key at p, of an item, was met in the first n slots of K; where it may be compared it is kept
 pub record MetAt (s K K' : List ℕ) (n p w : ℕ) (r : Met) : Type 0 where
   pub long : length K' ≡ length K
@@ -74,8 +83,20 @@ pub record MetAt (s K K' : List ℕ) (n p w : ℕ) (r : Met) : Type 0 where
   pub old : r.met ≡ true → (w ≡ 4) × ((ks : List (Rec ℕ)) → KeysOf s K n ks → T (not (lone s p && among s (lones s (starts ks)) p)) → ⊥)
   pub kept : r.met ≡ false → w ≡ 4 → (ks : List (Rec ℕ)) (x : Rec ℕ) → x.start ≡ p → KeysOf s K n ks → KeysOf s K' r.keys (x ∷ ks)
 
+-- whether a child is right in its place; where it ends, the row of the next one, and how many keys are kept
+pub record Passed : Type 0 where
+  pub good : Bool
+  pub end : ℕ
+  pub next : ℕ
+  pub keys : ℕ
+
 abbrev pub no_pass : ℕ → Passed
 no_pass n = record { good = false; end = 0; next = 0; keys = n }
+
+-- the same as the code has it, after n keys
+abbrev pub passed_from : ℕ → Option Right → Passed
+passed_from n None = no_pass n
+passed_from n (Some r) = record { good = true; end = r.end; next = r.next; keys = r.keys }
 
 -- what `pass` asks for
 pub record Passing (s t : List ℕ) (i : ℕ) (m D K : List ℕ) (j n c left at h : ℕ) (alone : Bool) : Type 0 where

@@ -1,5 +1,6 @@
 -- What the leaves of the checker promise: each tests one thing of the rule (grammar's Published).
-use Rattle.std.specs.Prelude.{ℕ, zero, suc, ◌+◌, ◌≤◌, ◌<◌, ◌≡◌, List, [], ◌∷◌, Bool, true, false, cond, ◌&&◌, ◌||◌, length, take, drop, eqb, leb}
+use Rattle.grammar.specs.Said.{Child, Went}
+use Rattle.std.specs.Prelude.{ℕ, zero, suc, ◌+◌, ◌≤◌, ◌<◌, ◌≡◌, List, [], ◌∷◌, Bool, true, false, cond, ◌&&◌, ◌||◌, length, take, drop, eqb, leb, Option, Some, None}
 use Rattle.std.proofs.Math.Option.{none, some}
 use Rattle.lexis.specs.Bytes.{stands}
 use Rattle.lexis.specs.String.{Mode, quoted, text_at}
@@ -7,15 +8,12 @@ use Rattle.engine.specs.Base.{Rec}
 use Rattle.engine.specs.Layout.{named}
 use Rattle.engine.specs.Rule.{Local}
 use Rattle.grammar.specs.declared.shape.Instr.{Instr}
-use Rattle.grammar.specs.declared.shape.Child.{Child}
-use Rattle.grammar.specs.declared.moves.Went.{Went}
 use Rattle.grammar.specs.Moves.{Want, an_expression, Under, place, walk, keys_of}
 use Rattle.grammar.specs.Layouts.{entry}
 use Rattle.grammar.specs.Hcl.{hcl, under, downs, bounds, styles, pick_at}
 use Rattle.grammar.specs.Code.{operation, argument, class, otherwise}
 use Rattle.grammar.specs.Table.{Record, span}
 use Rattle.grammar.specs.Published.{kinds_of, want_of, style_of, More, taken, row_of}
-use Rattle.checker.specs.declared.text.Used.{Used}
 use Rattle.checker.specs.Program.{code_in, move_in, class_in}
 
 -- ---- the program
@@ -80,6 +78,19 @@ pub record Spelt (m : Mode) (s text : List ℕ) (p : ℕ) (r : Record) : Type 0 
 -- the text numbers of a record, u bytes of text being used before it
 abbrev pub Placed : ℕ → Record → Type 0
 Placed u r = (r.from, r.length) ≡ span r.kind r.flag r.start r.end u r.length
+
+-- whether a record's text numbers are right, and how many bytes of text are used before it
+pub record Used : Type 0 where
+  pub good : Bool
+  pub before : ℕ
+
+abbrev pub used : Bool → ℕ → Used
+used g v = record { good = g; before = v }
+
+-- the same as the code has it
+abbrev pub used_from : Option ℕ → Used
+used_from None = used false 0
+used_from (Some v) = used true v
 
 -- `x` says whether the text numbers of the record r are right, u bytes of text being used up to it and with it; and how many before it
 pub record Columns (r : Record) (u : ℕ) (x : Used) : Type 0 where

@@ -1,17 +1,17 @@
 -- What the small functions behind the leaves promise.
-use Rattle.std.specs.Prelude.{ℕ, zero, suc, ◌+◌, ◌-◌, ◌/◌, ◌%◌, ◌≤◌, ◌≡◌, Bool, false, cond, ◌&&◌, List, [], ◌∷◌, get_or, eqb, ltb}
+use Rattle.std.specs.Prelude.{ℕ, zero, suc, ◌+◌, ◌-◌, ◌/◌, ◌%◌, ◌≤◌, ◌≡◌, Bool, false, cond, ◌&&◌, List, [], ◌∷◌, get_or, eqb, ltb, Option, Some, None}
+use Rattle.std.specs.Bool.{then_some}
 use Rattle.std.proofs.Math.Option.{none, some}
 use Rattle.lexis.specs.declared.string.Run.{Run}
 use Rattle.lexis.specs.Bytes.{stands}
-use Rattle.lexis.specs.declared.trivia.Stop.{Stop}
-use Rattle.lexis.specs.Trivia.{Stopped}
+use Rattle.lexis.specs.Trivia.{Stopping, Stopped}
 use Rattle.lexis.specs.String.{text_at, mode_of}
-use Rattle.grammar.specs.declared.shape.Child.{Child}
-use Rattle.grammar.specs.declared.moves.Went.{Went}
 use Rattle.grammar.specs.Moves.{Under, Step, to, place, keys_of, Move, walk}
-use Rattle.grammar.specs.Said.{ChildOf, went, Moved}
+use Rattle.grammar.specs.Said.{Went, went, Moved}
+use Rattle.checker.specs.declared.moves.Signed.{Signed}
+use Rattle.checker.specs.declared.moves.Onward.{Onward}
+use Rattle.checker.specs.declared.moves.Onward.TheVariants.{Next, Closed}
 use Rattle.checker.specs.declared.row.Row.{Row}
-use Rattle.checker.specs.declared.text.Used.{Used}
 use Rattle.checker.specs.Rows.{row_at}
 use Rattle.checker.specs.Program.{own, own_move}
 
@@ -20,11 +20,6 @@ use Rattle.checker.specs.Program.{own, own_move}
 -- the k-th instruction of the checker's own; 0 past the last
 abbrev pub word_in : ℕ → ℕ
 word_in k = get_or own k 0
-
--- `r` is what a child of a class of grammar's is under; what is wanted is one of its four
-pub record Shared (c left : ℕ) (lines : Bool) (r : Child) : Type 0 where
-  pub is : ChildOf c left lines r
-  pub known : r.want ≤ 3
 
 -- by kind: how tightly it binds and, in the bits behind that, where it may stand: as an expression, a name, a part, a condition, an item, a key
 abbrev pub seats : List ℕ
@@ -72,6 +67,17 @@ pub record OneBy (s : List ℕ) (m n : Move) (p : ℕ) (r : Went) : Type 0 where
   pub second : r.kind ≡ 1 → Goes s m p (went 1 p) × Goes s n p (went 0 r.at)
   pub neither : ¬ (r.kind ≤ 1) → Goes s m p (went 1 p) × Goes s n p (went 1 p)
 
+-- a sign behind p as a step, whose kind is the flag; 2 for none
+abbrev pub sign_from : ℕ → Option Signed → Went
+sign_from p None = went 2 p
+sign_from p (Some x) = went x.flag x.at
+
+-- what comes behind p as a step: kind 0 for the next item, 1 for past the `}`, 2 for neither
+abbrev pub after_from : ℕ → Option Onward → Went
+after_from p None = went 2 p
+after_from p (Some (Next q)) = went 0 q
+after_from p (Some (Closed q)) = went 1 q
+
 -- past the sign of an item whose key ends at p: `=`, or `:`
 abbrev pub SignBy : List ℕ → ℕ → Went → Type 0
 SignBy s p r = OneBy s (own_move 2) (own_move 3) p r
@@ -86,7 +92,7 @@ pub record EndedTo (s : List ℕ) (p q : ℕ) : Type 0 where
   pub moved : Moved s p false gap
   pub made : gap.kind ≡ 0
   pub opened : stands (125 ∷ []) s gap.at ≡ false
-  pub stop : Stop
+  pub stop : Stopping
   pub stopped : Stopped s gap.at stop
   pub ends : stop.how ≡ 1
   pub at : stop.at ≡ q
@@ -115,12 +121,9 @@ pub record RowHere (t : List ℕ) (i : ℕ) (r : Row) : Type 0 where
 
 -- ---- text numbers
 
-abbrev pub used : Bool → ℕ → Used
-used g v = record { good = g; before = v }
-
 -- those of a string or a piece, whose text without an escape is the b bytes of the source from a on; with one it ends where u bytes are used
-abbrev pub used_by : ℕ → ℕ → ℕ → ℕ → ℕ → ℕ → Used
-used_by flag from n a b u = cond (eqb flag 1) (cond (ltb u n) (used false 0) (used (eqb from (u - n)) (u - n))) (used (eqb from a && eqb n b) u)
+abbrev pub used_by : ℕ → ℕ → ℕ → ℕ → ℕ → ℕ → Option ℕ
+used_by flag from n a b u = cond (eqb flag 1) (cond (ltb u n) None (then_some (eqb from (u - n)) (u - n))) (then_some (eqb from a && eqb n b) u)
 
 -- ---- text
 

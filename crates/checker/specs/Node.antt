@@ -1,5 +1,5 @@
 -- The rule at one row: what the code of it promises.
-use Rattle.std.specs.Prelude.{ℕ, suc, ◌+◌, ◌*◌, ◌%◌, ◌≤◌, ◌<◌, ◌≡◌, List, map, Bool, true, false, ◌⊎◌, length, get_or, T, eqb}
+use Rattle.std.specs.Prelude.{ℕ, suc, ◌+◌, ◌*◌, ◌%◌, ◌≤◌, ◌<◌, ◌≡◌, List, map, Bool, true, false, ◌⊎◌, length, get_or, T, eqb, Option, Some, None}
 use Rattle.lexis.specs.String.{quoted}
 use Rattle.engine.specs.Base.{has}
 use Rattle.engine.specs.Rule.{Kids}
@@ -10,8 +10,6 @@ use Rattle.grammar.specs.Said.{kind_of}
 use Rattle.grammar.specs.Published.{Depth, Laid, Rule}
 use Rattle.checker.specs.Rows.{row_at, rows, rec_at}
 use Rattle.checker.specs.Family.{Chain}
-use Rattle.checker.specs.declared.single.Look.{Look}
-use Rattle.checker.specs.declared.node.Left.{Left}
 use Rattle.checker.specs.Leaf.{kinds_by, read_as, Spelt}
 use Rattle.checker.specs.Lay.{coded, depths_at, Operates}
 use Rattle.checker.specs.Texts.{Sanes, Spelts}
@@ -61,6 +59,16 @@ pub record TokenAt (t : List ℕ) (i k e : ℕ) (r : Bool) : Type 0 where
   pub yes : r ≡ true → (read_as (row_at t i).kind ≡ k) × ((row_at t i).end ≡ e) × ((row_at t i).flag ≡ 0)
   pub no : r ≡ false → read_as (row_at t i).kind ≡ k → (row_at t i).end ≡ e → (row_at t i).flag ≡ 0 → ⊥
 
+-- whether one look tells of a row, and what
+pub record Look : Type 0 where
+  pub sure : Bool
+  pub yes : Bool
+
+-- the same as the code has it
+abbrev pub look_from : Option Bool → Look
+look_from None = record { sure = false; yes = false }
+look_from (Some y) = record { sure = true; yes = y }
+
 -- `r` says of the row i, which has no children and is no piece, whether the rule holds at it, where it is sure
 pub record SingleBy (s t : List ℕ) (i : ℕ) (lines : Bool) (r : Look) : Type 0 where
   pub other : r.sure ≡ true → (row_at t i).kind ≡ 9 → ⊥
@@ -76,8 +84,18 @@ pub record LeftAt (s t : List ℕ) (i l : ℕ) (lines : Bool) (r : Bool) : Type 
   pub no : r ≡ false → (row_at t l).start ≡ (row_at t i).start → (row_at t l).start < (row_at t l).end → ((left : ℕ) → (row_at t i).kind ≡ kind_of (follow_at s (under left lines an_expression) (row_at t l).end))
       → tight_of (row_at t i).kind ≤ hold_of (row_at t l).kind → T (has (kinds_by 0) (row_at t l).kind) → ⊥
 
+-- whether a row may be a left operand, and where the binary operator behind it ends
+pub record Left : Type 0 where
+  pub good : Bool
+  pub end : ℕ
+
 abbrev pub no_left : Left
 no_left = record { good = false; end = 0 }
+
+-- the same as the code has it
+abbrev pub left_from : Option ℕ → Left
+left_from None = no_left
+left_from (Some e) = record { good = true; end = e }
 
 -- `r` says the same; its end is that of the binary operator where one follows, else the operand's
 pub record LeftTo (s t : List ℕ) (i l : ℕ) (lines : Bool) (r : Left) : Type 0 where

@@ -29,11 +29,9 @@ pub fn attribute(s: &[u8], table: &[u16], i: usize, j: usize, p: usize) -> bool
     if d == p {
         return false;
     }
-    let w = space(s, d, true);
-    if w.kind != 0 {
+    let Ok(at) = space(s, d, true) else {
         return false;
-    }
-    let at = w.at;
+    };
     let e = ident_end(s, at);
     if e == at {
         return false;

@@ -8,10 +8,8 @@ use crate::lay::ends;
 use crate::pass::kid;
 use crate::rows::wide;
 use grammar::moves::space;
+use grammar::program::Want;
 use lexis::operator::{mark_end, pair_end};
-
-// What is wanted where an expression stands.
-const EXPRESSION: u8 = 0;
 
 // An expression behind any trivia from p on, a level deeper than a depth.
 pub fn inside(
@@ -26,11 +24,10 @@ pub fn inside(
     requires { Seating table.now i depths.old j × (2 ≤ own) }
     ensures { StepBy s.now table.now i own depths.old depths.new inside_lay j p result }
 {
-    let w = space(s, p, true);
-    if w.kind != 0 {
+    let Ok(w) = space(s, p, true) else {
         return false;
-    }
-    kid(table, i, depths, j, w.at, 0, EXPRESSION, own / 2 * 2 - 1)
+    };
+    kid(table, i, depths, j, w, 0, Want::Expression, own / 2 * 2 - 1)
 }
 
 // An opener at p, an expression and its closer.
@@ -59,12 +56,11 @@ pub fn enclosed(
     if !inside(s, table, i, depths, j, b, own) {
         return false;
     }
-    let w = space(s, wide(table[7 * j + 3]), true);
-    if w.kind != 0 {
+    let Ok(w) = space(s, wide(table[7 * j + 3]), true) else {
         return false;
-    }
-    let e = mark_end(s, w.at, closer);
-    if e == w.at {
+    };
+    let e = mark_end(s, w, closer);
+    if e == w {
         return false;
     }
     ends(table, i, wide(marks[j]), e, 0)
@@ -85,11 +81,9 @@ fn stripped(s: &[u8], table: &[u16], i: usize, j: usize, p: usize, left: bool) -
     requires { 7 * i + 7 ≤ length table.now }
     ensures { TailBy s.now table.now i (stripped_lay (cond left 1 0)) j p result }
 {
-    let w = space(s, p, true);
-    let at = w.at;
-    if w.kind != 0 {
+    let Ok(at) = space(s, p, true) else {
         return false;
-    }
+    };
     let r = mark_end(s, at, 126);
     let e = mark_end(s, r, 125);
     if e == r {

@@ -5,15 +5,11 @@ ghost use Rattle.checker.specs.Lay.{Direct};
 ghost use Rattle.checker.specs.Rest.{RestBy};
 
 use crate::list::listed;
-use crate::pass::kid;
+use crate::pass::{TIGHT, kid};
 use crate::rows::wide;
 use grammar::moves::space;
+use grammar::program::Want;
 use lexis::operator::colons_end;
-
-// What is wanted where a name stands, and what it binds tighter than.
-const NAME: u8 = 1;
-
-const TIGHT: usize = 8;
 
 // The names from the row `first` on, which is at p, and the arguments.
 pub fn call(
@@ -33,24 +29,22 @@ pub fn call(
     let mut j = first;
     let mut at = p;
     loop {
-        if !kid(table, i, depths, j, at, TIGHT, NAME, own) {
+        if !kid(table, i, depths, j, at, TIGHT, Want::Name, own) {
             return false;
         }
         let q = wide(table[7 * j + 3]);
         j = wide(marks[j]);
-        let w = space(s, q, lines);
-        if w.kind != 0 {
+        let Ok(w) = space(s, q, lines) else {
             return false;
-        }
-        at = w.at;
+        };
+        at = w;
         let c = colons_end(s, at);
         if c == at {
             return listed(s, table, i, marks, depths, j, at, own, 40, 41);
         }
-        let v = space(s, c, lines);
-        if v.kind != 0 {
+        let Ok(v) = space(s, c, lines) else {
             return false;
-        }
-        at = v.at;
+        };
+        at = v;
     }
 }

@@ -9,10 +9,8 @@ use crate::lay::ends;
 use crate::pass::kid;
 use crate::rows::wide;
 use grammar::moves::space;
+use grammar::program::Want;
 use lexis::word::if_end;
-
-// What is wanted where an expression stands.
-const EXPRESSION: u8 = 0;
 
 // `if` at p, and an expression.
 pub fn condition(
@@ -32,11 +30,10 @@ pub fn condition(
     if e == p {
         return false;
     }
-    let w = space(s, e, true);
-    if w.kind != 0 {
+    let Ok(w) = space(s, e, true) else {
         return false;
-    }
-    if !kid(table, i, depths, j, w.at, 0, EXPRESSION, own) {
+    };
+    if !kid(table, i, depths, j, w, 0, Want::Expression, own) {
         return false;
     }
     ends(table, i, wide(marks[j]), wide(table[7 * j + 3]), 0)

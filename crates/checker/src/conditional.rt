@@ -9,10 +9,8 @@ use crate::lay::ends;
 use crate::pass::kid;
 use crate::rows::wide;
 use grammar::moves::space;
+use grammar::program::Want;
 use lexis::operator::mark_end;
-
-// What is wanted where an expression stands.
-const EXPRESSION: u8 = 0;
 
 // A mark behind the trivia from p on, and an expression, a level deeper than a depth.
 fn branch(
@@ -29,20 +27,17 @@ fn branch(
     requires { Seating table.now i depths.old j × (2 ≤ own) × (lines ≡ eqb (own % 2) 1) × ((row_at table.now i).kind ≡ 21) }
     ensures { StepBy s.now table.now i own depths.old depths.new (branch_lay mark) j p result }
 {
-    let g = space(s, p, lines);
-    let at = g.at;
-    if g.kind != 0 {
+    let Ok(at) = space(s, p, lines) else {
         return false;
-    }
+    };
     let e = mark_end(s, at, mark);
     if e == at {
         return false;
     }
-    let w = space(s, e, lines);
-    if w.kind != 0 {
+    let Ok(w) = space(s, e, lines) else {
         return false;
-    }
-    kid(table, i, depths, j, w.at, 0, EXPRESSION, own - 2)
+    };
+    kid(table, i, depths, j, w, 0, Want::Expression, own - 2)
 }
 
 // The second and the third part, behind a condition that ends at p.

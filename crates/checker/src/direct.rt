@@ -11,12 +11,7 @@ use crate::pass::kid;
 use crate::rows::wide;
 use grammar::kinds::tight;
 use grammar::moves::space;
-
-// What is wanted where an expression stands.
-const EXPRESSION: u8 = 0;
-
-// What is wanted where the key of an item stands.
-const KEY: u8 = 5;
+use grammar::program::Want;
 
 // A depth, where no line end may stand.
 fn one_line(own: u8) -> u8
@@ -39,28 +34,20 @@ pub fn item(
     requires { Direct table.now i marks.now depths.old first × ((row_at table.now i).kind ≡ 13) }
     ensures { LaidBy s.now table.now i marks.now depths.old depths.new first p (own / 2) (eqb (own % 2) 1) result }
 {
-    if !kid(table, i, depths, first, p, 0, KEY, one_line(own)) {
+    if !kid(table, i, depths, first, p, 0, Want::Key, one_line(own)) {
         return false;
     }
-    let g = sign(s, wide(table[7 * first + 3]));
-    if 1 < g.kind {
+    let Some(g) = sign(s, wide(table[7 * first + 3])) else {
         return false;
-    }
-    let w = space(s, g.at, false);
-    if w.kind != 0 {
+    };
+    let Ok(w) = space(s, g.at, false) else {
         return false;
-    }
+    };
     let j = wide(marks[first]);
-    if !kid(table, i, depths, j, w.at, 0, EXPRESSION, own) {
+    if !kid(table, i, depths, j, w, 0, Want::Expression, own) {
         return false;
     }
-    ends(
-        table,
-        i,
-        wide(marks[j]),
-        wide(table[7 * j + 3]),
-        g.kind as usize,
-    )
+    ends(table, i, wide(marks[j]), wide(table[7 * j + 3]), g.flag)
 }
 
 // A binary operator that ends at e, and its right operand.
@@ -78,12 +65,11 @@ pub fn operator(
     requires { Direct table.now i marks.now depths.old j × (lines ≡ eqb (own % 2) 1) × T (has laid_out (row_at table.now i).kind) }
     ensures { OperatorBy s.now table.now i marks.now depths.old depths.new j e own result }
 {
-    let w = space(s, e, lines);
-    if w.kind != 0 {
+    let Ok(w) = space(s, e, lines) else {
         return false;
-    }
+    };
     let bound = tight(table[7 * i]) as usize;
-    if !kid(table, i, depths, j, w.at, bound, EXPRESSION, own) {
+    if !kid(table, i, depths, j, w, bound, Want::Expression, own) {
         return false;
     }
     ends(table, i, wide(marks[j]), wide(table[7 * j + 3]), 0)

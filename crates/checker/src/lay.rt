@@ -56,23 +56,22 @@ pub fn lay(
             pc = pc + 1;
             continue;
         }
-        let w = go(s, left, lines, x.arg, q);
-        if w.kind != 0 {
+        let Ok(w) = go(s, left, lines, x.arg, q) else {
             if x.op == Instr::MOVE {
                 return false;
             }
             pc = x.next;
             continue;
-        }
+        };
         if x.op == Instr::REP {
-            if !child_at(table, i, depths, j, w.at, x.class, left, lines) {
+            if !child_at(table, i, depths, j, w, x.class, left, lines) {
                 return false;
             }
             q = wide(table[7 * j + 3]);
             j = wide(marks[j]);
             continue;
         }
-        q = w.at;
+        q = w;
         pc = pc + 1;
     }
 }

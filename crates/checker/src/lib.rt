@@ -1,6 +1,6 @@
 #![tactic(auto)]
 // The checker: a table and a text from anyone, tested against a source. It reads nothing anew and builds no tree.
-ghost use Rattle.std.specs.Prelude.{◌≤◌, length};
+ghost use Rattle.std.specs.Prelude.{◌≡◌, ◌*◌, ◌≤◌, length};
 ghost use Rattle.checker.specs.Check.{Rooted, Ready, Walking, Checks};
 ghost use Rattle.checker.specs.Told.{Told};
 
@@ -8,6 +8,8 @@ use crate::node::node;
 use crate::program::fits;
 use crate::rows::wide;
 use crate::text::columns;
+use grammar::kinds::Limit;
+use grammar::program::Want;
 use lexis::utf8::first_bad;
 
 mod bare;
@@ -37,20 +39,30 @@ mod texts;
 mod told;
 mod traversal;
 
-// What is wanted where an expression stands.
-const EXPRESSION: u8 = 0;
-
 // The depth of the root: 64 levels, twice, and no line end.
 const TOP: u8 = 128;
 
-// Tables of at most so many rows have a smaller room.
+// Tables of at most so many rows have a smaller room. The root counts its rows in 16 bits, so there are no more than a source may have bytes. A slot for a key, one for each
+// row, is of four numbers.
 const FEW: usize = 512;
+
+const FEW_KEYS: usize = 4 * FEW;
 
 const SOME: usize = 3072;
 
+const SOME_KEYS: usize = 4 * SOME;
+
 const MANY: usize = 9216;
 
+const MANY_KEYS: usize = 4 * MANY;
+
 const MOST: usize = 18432;
+
+const MOST_KEYS: usize = 4 * MOST;
+
+const ALL: usize = Limit::SOURCE;
+
+const ALL_KEYS: usize = 4 * ALL;
 
 // Whether the last of n rows can be the root: over all rows, an expression, from the first byte to the last.
 fn rooted(source: &[u8], table: &[u16], n: usize) -> bool
@@ -59,10 +71,10 @@ fn rooted(source: &[u8], table: &[u16], n: usize) -> bool
     if n == 0 {
         return false;
     }
-    if table.len() / 7 < n {
+    if table.len() / Limit::RECORD < n {
         return false;
     }
-    let at = 7 * (n - 1);
+    let at = Limit::RECORD * (n - 1);
     if wide(table[at + 4]) != n {
         return false;
     }
@@ -72,7 +84,7 @@ fn rooted(source: &[u8], table: &[u16], n: usize) -> bool
     if wide(table[at + 3]) != source.len() {
         return false;
     }
-    fits(EXPRESSION, table[at])
+    fits(Want::Expression, table[at])
 }
 
 // The rule at each of n rows, from the last one backwards. `marks` links the children of a row, `depths` holds what the rows to come are under, and
@@ -91,75 +103,76 @@ fn walk(
     ensures { Checks source.now table.now text.now result }
 {
     depths[n - 1] = TOP;
-    let mut i = n;
     let mut u = text.len();
-    loop {
-        if i == 0 {
-            return u == 0;
-        }
-        let x = columns(table, i - 1, u);
-        if !x.good {
+    for i in (0..n).rev() {
+        let Some(before) = columns(table, i, u) else {
+            return false;
+        };
+        if !node(source, text, table, i, marks, depths, keys, told) {
             return false;
         }
-        if !node(source, text, table, i - 1, marks, depths, keys, told) {
-            return false;
-        }
-        u = x.before;
-        i = i - 1;
+        u = before;
     }
+    u == 0
 }
 
-// The walk in a room as small as will do, since all of it is cleared: marks, depths, keys and what is told.
+// The walk in a room for so many rows and keys: marks, depths, keys and what is told.
+fn walk_in<const ROWS: usize, const KEYS: usize>(
+    source: &[u8],
+    table: &[u16],
+    text: &[u8],
+    n: usize,
+) -> bool
+    requires { Ready source.now table.now n × (n ≤ ROWS) × (ROWS ≤ 65535) × (KEYS ≡ 4 * ROWS) }
+    ensures { Checks source.now table.now text.now result }
+{
+    let mut marks = [1u16; ROWS];
+    let mut depths = [0u8; ROWS];
+    let mut keys = [1u16; KEYS];
+    let mut told = [1u16; ROWS];
+    walk(
+        source,
+        table,
+        text,
+        n,
+        &mut marks,
+        &mut depths,
+        &mut keys,
+        &mut told,
+    )
+}
+
+// The walk in a room as small as will do, since all of it is cleared.
 fn roomed(source: &[u8], table: &[u16], text: &[u8], n: usize) -> bool
     requires { Ready source.now table.now n }
     ensures { Checks source.now table.now text.now result }
 {
     if n <= FEW {
-        let mut m = [1u16; 512];
-        let mut d = [0u8; 512];
-        let mut k = [1u16; 2048];
-        let mut t = [1u16; 512];
-        return walk(source, table, text, n, &mut m, &mut d, &mut k, &mut t);
+        return walk_in::<FEW, FEW_KEYS>(source, table, text, n);
     }
     if n <= SOME {
-        let mut m = [1u16; 3072];
-        let mut d = [0u8; 3072];
-        let mut k = [1u16; 12288];
-        let mut t = [1u16; 3072];
-        return walk(source, table, text, n, &mut m, &mut d, &mut k, &mut t);
+        return walk_in::<SOME, SOME_KEYS>(source, table, text, n);
     }
     if n <= MANY {
-        let mut m = [1u16; 9216];
-        let mut d = [0u8; 9216];
-        let mut k = [1u16; 36864];
-        let mut t = [1u16; 9216];
-        return walk(source, table, text, n, &mut m, &mut d, &mut k, &mut t);
+        return walk_in::<MANY, MANY_KEYS>(source, table, text, n);
     }
     if n <= MOST {
-        let mut m = [1u16; 18432];
-        let mut d = [0u8; 18432];
-        let mut k = [1u16; 73728];
-        let mut t = [1u16; 18432];
-        return walk(source, table, text, n, &mut m, &mut d, &mut k, &mut t);
+        return walk_in::<MOST, MOST_KEYS>(source, table, text, n);
     }
-    let mut m = [1u16; 65535];
-    let mut d = [0u8; 65535];
-    let mut k = [1u16; 262140];
-    let mut t = [1u16; 65535];
-    walk(source, table, text, n, &mut m, &mut d, &mut k, &mut t)
+    walk_in::<ALL, ALL_KEYS>(source, table, text, n)
 }
 
 // Whether a table and a text are the reading of a source.
 pub fn check(source: &[u8], table: &[u16], text: &[u8]) -> bool
     ensures { Checks source.now table.now text.now result }
 {
-    if source.len() > 65535 {
+    if source.len() > Limit::SOURCE {
         return false;
     }
-    if table.len() % 7 != 0 {
+    if table.len() % Limit::RECORD != 0 {
         return false;
     }
-    let n = table.len() / 7;
+    let n = table.len() / Limit::RECORD;
     if !rooted(source, table, n) {
         return false;
     }

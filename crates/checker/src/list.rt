@@ -10,11 +10,9 @@ use crate::lay::ends;
 use crate::pass::kid;
 use crate::rows::wide;
 use grammar::moves::space;
+use grammar::program::Want;
 use lexis::bytes::byte_at;
 use lexis::operator::{dots_end, mark_end};
-
-// What is wanted where an expression stands.
-const EXPRESSION: u8 = 0;
 
 // The closer of a call, before which `...` may stand.
 const CALL: u8 = 41;
@@ -35,11 +33,9 @@ fn last(s: &[u8], table: &[u16], i: usize, j: usize, at: usize, closer: u8) -> b
     if d == at {
         return false;
     }
-    let w = space(s, d, true);
-    if w.kind != 0 {
+    let Ok(q) = space(s, d, true) else {
         return false;
-    }
-    let q = w.at;
+    };
     let e = mark_end(s, q, closer);
     if e == q {
         return false;
@@ -66,24 +62,22 @@ fn elements(
     let mut j = first;
     let mut at = p;
     loop {
-        if !kid(table, i, depths, j, at, 0, EXPRESSION, depth) {
+        if !kid(table, i, depths, j, at, 0, Want::Expression, depth) {
             return false;
         }
         let q = wide(table[7 * j + 3]);
         j = wide(marks[j]);
-        let w = space(s, q, true);
-        if w.kind != 0 {
+        let Ok(w) = space(s, q, true) else {
             return false;
-        }
-        at = w.at;
+        };
+        at = w;
         if byte_at(s, at) != 44 {
             return last(s, table, i, j, at, closer);
         }
-        let v = space(s, at + 1, true);
-        if v.kind != 0 {
+        let Ok(v) = space(s, at + 1, true) else {
             return false;
-        }
-        at = v.at;
+        };
+        at = v;
         let e = mark_end(s, at, closer);
         if e != at {
             return ends(table, i, j, e, 0);
@@ -114,11 +108,9 @@ pub fn listed(
     if b == p {
         return false;
     }
-    let w = space(s, b, true);
-    if w.kind != 0 {
+    let Ok(at) = space(s, b, true) else {
         return false;
-    }
-    let at = w.at;
+    };
     let e = mark_end(s, at, closer);
     if e != at {
         return ends(table, i, first, e, 0);

@@ -7,31 +7,22 @@ ghost use Rattle.checker.specs.ListFor.{ShutBy, named_lay, intro_lay, collection
 
 use crate::bracket::inside;
 use crate::lay::ends;
-use crate::pass::kid;
+use crate::pass::{TIGHT, kid};
 use crate::rows::wide;
 use grammar::moves::space;
+use grammar::program::Want;
 use lexis::operator::mark_end;
 use lexis::word::{for_end, if_end, in_end};
-
-// What is wanted where an expression, a name and a condition stand, and what the last two bind tighter than.
-const EXPRESSION: u8 = 0;
-
-const NAME: u8 = 1;
-
-const CONDITION: u8 = 3;
-
-const TIGHT: usize = 8;
 
 // A name, behind any trivia from p on.
 fn named(s: &[u8], table: &[u16], i: usize, depths: &mut [u8], j: usize, p: usize, own: u8) -> bool
     requires { Seating table.now i depths.old j × (2 ≤ own) }
     ensures { StepBy s.now table.now i own depths.old depths.new named_lay j p result }
 {
-    let w = space(s, p, true);
-    if w.kind != 0 {
+    let Ok(w) = space(s, p, true) else {
         return false;
-    }
-    kid(table, i, depths, j, w.at, TIGHT, NAME, own)
+    };
+    kid(table, i, depths, j, w, TIGHT, Want::Name, own)
 }
 
 // `for`, and the first name.
@@ -39,11 +30,9 @@ fn intro(s: &[u8], table: &[u16], i: usize, depths: &mut [u8], j: usize, p: usiz
     requires { Seating table.now i depths.old j × (2 ≤ own) }
     ensures { StepBy s.now table.now i own depths.old depths.new intro_lay j p result }
 {
-    let w = space(s, p, true);
-    if w.kind != 0 {
+    let Ok(at) = space(s, p, true) else {
         return false;
-    }
-    let at = w.at;
+    };
     let e = for_end(s, at);
     if e == at {
         return false;
@@ -64,20 +53,17 @@ fn collection(
     requires { Seating table.now i depths.old j × (2 ≤ own) }
     ensures { StepBy s.now table.now i own depths.old depths.new collection_lay j p result }
 {
-    let w = space(s, p, true);
-    if w.kind != 0 {
+    let Ok(at) = space(s, p, true) else {
         return false;
-    }
-    let at = w.at;
+    };
     let e = in_end(s, at);
     if e == at {
         return false;
     }
-    let v = space(s, e, true);
-    if v.kind != 0 {
+    let Ok(v) = space(s, e, true) else {
         return false;
-    }
-    kid(table, i, depths, j, v.at, 0, EXPRESSION, own / 2 * 2 - 2)
+    };
+    kid(table, i, depths, j, v, 0, Want::Expression, own / 2 * 2 - 2)
 }
 
 // `:`, and the value.
@@ -85,11 +71,9 @@ fn value(s: &[u8], table: &[u16], i: usize, depths: &mut [u8], j: usize, p: usiz
     requires { Seating table.now i depths.old j × (2 ≤ own) }
     ensures { StepBy s.now table.now i own depths.old depths.new value_lay j p result }
 {
-    let w = space(s, p, true);
-    if w.kind != 0 {
+    let Ok(at) = space(s, p, true) else {
         return false;
-    }
-    let at = w.at;
+    };
     let e = mark_end(s, at, 58);
     if e == at {
         return false;
@@ -123,24 +107,30 @@ fn filtered(
     requires { Direct table.now i marks.now depths.old j × (2 ≤ own) }
     ensures { RestBy s.now table.now i own marks.now depths.old depths.new (filter_lay 93 0) j p result }
 {
-    let w = space(s, p, true);
-    if w.kind != 0 {
+    let Ok(at) = space(s, p, true) else {
         return false;
-    }
-    let at = w.at;
+    };
     if if_end(s, at) == at {
         return shut(s, table, i, j, at);
     }
-    if !kid(table, i, depths, j, at, TIGHT, CONDITION, own / 2 * 2 - 1) {
+    if !kid(
+        table,
+        i,
+        depths,
+        j,
+        at,
+        TIGHT,
+        Want::Condition,
+        own / 2 * 2 - 1,
+    ) {
         return false;
     }
     let q = wide(table[7 * j + 3]);
     let k = wide(marks[j]);
-    let v = space(s, q, true);
-    if v.kind != 0 {
+    let Ok(v) = space(s, q, true) else {
         return false;
-    }
-    shut(s, table, i, k, v.at)
+    };
+    shut(s, table, i, k, v)
 }
 
 // Behind the names: the collection, the value, and what follows it.
@@ -195,11 +185,9 @@ pub fn list_for(
     }
     let q = wide(table[7 * j + 3]);
     let k = wide(marks[j]);
-    let w = space(s, q, true);
-    if w.kind != 0 {
+    let Ok(at) = space(s, q, true) else {
         return false;
-    }
-    let at = w.at;
+    };
     let c = mark_end(s, at, 44);
     if c == at {
         return ranged(s, table, i, marks, depths, k, q, own);

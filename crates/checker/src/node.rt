@@ -1,9 +1,9 @@
 // The rule at one row.
-ghost use Rattle.std.specs.Prelude.{◌≡◌, true, false, cond, ◌+◌, ◌*◌, ◌/◌, ◌%◌, ◌≤◌, eqb, length, get_or};
+ghost use Rattle.std.specs.Prelude.{◌≡◌, true, false, ◌+◌, ◌*◌, ◌/◌, ◌%◌, ◌≤◌, eqb, length, get_or};
 ghost use Rattle.checker.specs.Rows.{row_at};
 ghost use Rattle.checker.specs.Family.{Linked};
 ghost use Rattle.checker.specs.Leaf.{is_grown};
-ghost use Rattle.checker.specs.Node.{NoText, Heading, Noding, RuleBy, no_left, LeftTo, NodeBy};
+ghost use Rattle.checker.specs.Node.{NoText, Heading, Noding, RuleBy, left_from, LeftTo, NodeBy};
 ghost use Rattle.checker.specs.Told.{Told, Telling};
 
 use crate::direct::{item, operator};
@@ -20,10 +20,8 @@ use crate::text::string;
 use crate::texts::texts;
 use grammar::kinds::{Kind, tight};
 use grammar::picks::next_at;
+use grammar::program::Want;
 use lexis::heredoc::opener_at;
-
-// What is wanted where an expression stands.
-const EXPRESSION: u8 = 0;
 
 // The levels left, in a depth.
 fn levels(own: u8) -> usize
@@ -37,12 +35,6 @@ fn multi_line(own: u8) -> bool
     ensures { result ≡ eqb (own % 2) 1 }
 {
     own % 2 == 1
-}
-
-fn flag_of(dash: bool) -> usize
-    ensures { result ≡ cond dash 1 0 }
-{
-    if dash { 1 } else { 0 }
 }
 
 // A template: its quote, and its text.
@@ -100,11 +92,10 @@ fn heredoc(
     if !first_at(s, Kind::HEREDOC, start, multi_line(own)) {
         return false;
     }
-    let o = opener_at(s, start);
-    if !o.good {
+    let Ok(o) = opener_at(s, start) else {
         return false;
-    }
-    if wide(table[7 * i + 1]) != flag_of(o.dash) {
+    };
+    if wide(table[7 * i + 1]) != usize::from(o.dash) {
         return false;
     }
     texts(
@@ -112,47 +103,32 @@ fn heredoc(
     )
 }
 
-// Whether a row may be a left operand, and where the binary operator behind it ends; its own end where none stands there.
-#[derive(Clone, Copy, Drop)]
-pub struct Left {
-    pub good: bool,
-    pub end: usize,
-}
-
-fn no_left() -> Left
-    ensures { result ≡ no_left }
-{
-    Left {
-        good: false,
-        end: 0,
-    }
-}
-
-// Whether the l-th row may be the left operand of the i-th, which is an operator, a conditional or a traversal.
-fn left_at(s: &[u8], table: &[u16], i: usize, l: usize, lines: bool) -> Left
+// Where the l-th row may be the left operand of the i-th, which is an operator, a conditional or a traversal: the end of the binary operator behind it, or its own end
+// where none stands there.
+fn left_at(s: &[u8], table: &[u16], i: usize, l: usize, lines: bool) -> Option<usize>
     requires { (7 * i + 7 ≤ length table.now) × (7 * l + 7 ≤ length table.now) }
-    ensures { LeftTo s.now table.now i l lines result }
+    ensures { LeftTo s.now table.now i l lines (left_from result) }
 {
     let start = table[7 * l + 2];
     if start != table[7 * i + 2] {
-        return no_left();
+        return None;
     }
     if table[7 * l + 3] <= start {
-        return no_left();
+        return None;
     }
     let kind = table[7 * i];
     let operand = table[7 * l];
     if !groups(tight(kind) as usize, hold(operand) as usize, false) {
-        return no_left();
+        return None;
     }
-    if !fits(EXPRESSION, operand) {
-        return no_left();
+    if !fits(Want::Expression, operand) {
+        return None;
     }
     let h = next_at(s, wide(table[7 * l + 3]), lines);
-    Left {
-        good: h.kind == kind,
-        end: h.end,
+    if h.kind != kind {
+        return None;
     }
+    Some(h.end)
 }
 
 // A node that grows from its left operand: an operator, a conditional or a traversal.
@@ -174,15 +150,14 @@ fn grown(
         return false;
     }
     let lines = multi_line(own);
-    let x = left_at(s, table, i, first, lines);
-    if !x.good {
+    let Some(e) = left_at(s, table, i, first, lines) else {
         return false;
-    }
+    };
     depths[first] = own;
     let next = wide(marks[first]);
     let end = wide(table[7 * first + 3]);
-    if x.end != end {
-        return operator(s, table, i, marks, depths, next, x.end, own, lines);
+    if e != end {
+        return operator(s, table, i, marks, depths, next, e, own, lines);
     }
     growth(
         s,
@@ -298,17 +273,15 @@ pub fn node(
     let own = depths[i];
     // most rows have no children and are told by one look
     if table[7 * i + 4] == 1 {
-        let x = single(s, table, i, told, multi_line(own));
-        if x.sure {
-            return x.yes;
+        if let Some(yes) = single(s, table, i, told, multi_line(own)) {
+            return yes;
         }
     }
     if table[7 * i] == Kind::PIECE {
         return table[7 * i + 4] == 1;
     }
-    let first = family(table, i, marks);
-    if i < first {
+    let Some(first) = family(table, i, marks) else {
         return false;
-    }
+    };
     ruled(s, text, table, i, marks, depths, keys, told, first, own)
 }

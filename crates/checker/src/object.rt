@@ -6,7 +6,7 @@ ghost use Rattle.checker.specs.Told.{Told, Telling};
 
 use crate::lay::ends;
 use crate::lone::{Memo, alone};
-use crate::moves::after;
+use crate::moves::{Onward, after};
 use crate::pass::pass;
 use crate::told::tell;
 use grammar::moves::space;
@@ -40,11 +40,9 @@ pub fn object(
     if b == p {
         return false;
     }
-    let w = space(s, b, true);
-    if w.kind != 0 {
+    let Ok(mut at) = space(s, b, true) else {
         return false;
-    }
-    let mut at = w.at;
+    };
     let e = mark_end(s, at, 125);
     if e != at {
         return ends(table, i, first, e, 0);
@@ -59,21 +57,17 @@ pub fn object(
     loop {
         let t = token_at(s, at);
         let key = alone(s, t.end, memo);
-        let c = pass(
+        let Some(c) = pass(
             s, table, i, marks, depths, keys, j, n, ITEMS, left, lines, at, t.mark, key.yes,
-        );
-        if !c.good {
+        ) else {
             return false;
-        }
+        };
         tell(table, told, j, at, t.end, key.yes);
-        let g = after(s, c.end);
-        if g.kind == 1 {
-            return ends(table, i, c.next, g.at, 0);
-        }
-        if g.kind != 0 {
-            return false;
-        }
-        at = g.at;
+        at = match after(s, c.end) {
+            Some(Onward::Next(q)) => q,
+            Some(Onward::Closed(q)) => return ends(table, i, c.next, q, 0),
+            None => return false,
+        };
         j = c.next;
         n = c.keys;
         memo = key.memo;

@@ -2,37 +2,30 @@
 ghost use Rattle.std.specs.Prelude.{◌≡◌, cond, ◌+◌, ◌*◌, ◌≤◌, length};
 ghost use Rattle.index.specs.Mark.{mark_at};
 ghost use Rattle.grammar.specs.Moves.{lone};
+ghost use Rattle.grammar.specs.Said.{wanted};
 ghost use Rattle.checker.specs.Child.{ChildBy};
-ghost use Rattle.checker.specs.Lay.{SuitsAt, Seating, KidBy, Meeting, MetAt, no_pass, Passing, PassedBy};
+ghost use Rattle.checker.specs.Lay.{SuitsAt, Seating, KidBy, Meeting, met_from, MetAt, Passing, passed_from, PassedBy};
 
 use crate::precedence::groups;
-use crate::program::{child, seat, sits};
+use crate::program::{Want, child, seat, sits};
 use crate::rows::wide;
 use index::{find, insert};
 
-// What is wanted where an item stands.
-const ITEM: u8 = 4;
+// What a name and a part bind tighter than.
+pub const TIGHT: usize = 8;
 
-// Whether a key was met before, and how many are kept with it.
-#[derive(Clone, Copy, Drop)]
-pub struct Met {
-    pub met: bool,
-    pub keys: usize,
-}
-
-// Whether a child is right in its place; where it ends, the row of the next one, and how many keys are kept.
+// Of a child that is right in its place: where it ends, the row of the next one, and how many keys are kept.
 #[derive(Clone, Copy, Drop)]
 pub struct Passed {
-    pub good: bool,
     pub end: usize,
     pub next: usize,
     pub keys: usize,
 }
 
 // Whether the j-th row starts at a place, is not empty, binds tighter than a bound and is of a kind that is wanted.
-fn suits(table: &[u16], j: usize, at: usize, bound: usize, want: u8) -> bool
+fn suits(table: &[u16], j: usize, at: usize, bound: usize, want: Want) -> bool
     requires { 7 * j + 7 ≤ length table.now }
-    ensures { SuitsAt table.now j at bound want result }
+    ensures { SuitsAt table.now j at bound (wanted want) result }
 {
     let start = wide(table[7 * j + 2]);
     if start != at {
@@ -57,11 +50,11 @@ pub fn kid(
     j: usize,
     at: usize,
     bound: usize,
-    want: u8,
+    want: Want,
     depth: u8,
 ) -> bool
     requires { Seating table.now i depths.old j }
-    ensures { KidBy table.now i depths.old depths.new j at bound want depth result }
+    ensures { KidBy table.now i depths.old depths.new j at bound (wanted want) depth result }
 {
     if j == i {
         return false;
@@ -73,33 +66,32 @@ pub fn kid(
     true
 }
 
-// Of an item that starts at p, whose key has the mark m: whether its key is one of the n in the slots of `keys`. Where it stands alone, and so may be compared, it is
-// kept there.
-fn meet(s: &[u8], keys: &mut [u16], n: usize, p: u16, m: u16, want: u8, alone: bool) -> Met
-    requires { Meeting s.now keys.old n × (want ≡ 4 → m ≡ mark_at s.now p) × (want ≡ 4 → alone ≡ lone s.now p) }
-    ensures { MetAt s.now keys.old keys.new n p want result }
+// Of an item that starts at p, whose key has the mark m: nothing where its key is one of the n in the slots of `keys`, else how many are kept there. One that stands
+// alone, and so may be compared, is kept too.
+fn meet(
+    s: &[u8],
+    keys: &mut [u16],
+    n: usize,
+    p: u16,
+    m: u16,
+    want: Want,
+    alone: bool,
+) -> Option<usize>
+    requires { Meeting s.now keys.old n × (wanted want ≡ 4 → m ≡ mark_at s.now p) × (wanted want ≡ 4 → alone ≡ lone s.now p) }
+    ensures { MetAt s.now keys.old keys.new n p (wanted want) (met_from n result) }
 {
-    if want != ITEM {
-        return Met {
-            met: false,
-            keys: n,
-        };
+    if want != Want::Item {
+        return Some(n);
     }
     if !alone {
-        return Met {
-            met: false,
-            keys: n,
-        };
+        return Some(n);
     }
     let a = wide(p);
     if find(s, keys, 0, n, a, m) {
-        return Met { met: true, keys: n };
+        return None;
     }
     insert(s, keys, 0, n, a, m);
-    Met {
-        met: false,
-        keys: n + 1,
-    }
+    Some(n + 1)
 }
 
 // A depth in one number.
@@ -133,20 +125,8 @@ pub fn child_at(
     kid(table, i, depths, j, at, y.bound, y.want, depth)
 }
 
-fn missed(n: usize) -> Passed
-    ensures { result ≡ no_pass n }
-{
-    Passed {
-        good: false,
-        end: 0,
-        next: 0,
-        keys: n,
-    }
-}
-
 // The j-th row as a child of a class at a place, in the node of the i-th row, after n keys. Of an item there the key has the mark m, and `alone` says whether it stands
-// alone.
-// Where it is right its depth is put down.
+// alone. Where it is right its depth is put down.
 pub fn pass(
     s: &[u8],
     table: &[u16],
@@ -162,26 +142,22 @@ pub fn pass(
     at: usize,
     m: u16,
     alone: bool,
-) -> Passed
+) -> Option<Passed>
     requires { Passing s.now table.now i marks.now depths.old keys.old j n class left at m alone }
-    ensures { PassedBy s.now table.now i marks.now depths.old depths.new keys.old keys.new j n class left lines at result }
+    ensures { PassedBy s.now table.now i marks.now depths.old depths.new keys.old keys.new j n class left lines at (passed_from n result) }
 {
     if j == i {
-        return missed(n);
+        return None;
     }
     let y = child(class, left, lines);
     if !suits(table, j, at, y.bound, y.want) {
-        return missed(n);
+        return None;
     }
-    let k = meet(s, keys, n, table[7 * j + 2], m, y.want, alone);
-    if k.met {
-        return missed(n);
-    }
+    let kept = meet(s, keys, n, table[7 * j + 2], m, y.want, alone)?;
     depths[j] = packed(y.left, y.lines);
-    Passed {
-        good: true,
+    Some(Passed {
         end: wide(table[7 * j + 3]),
         next: wide(marks[j]),
-        keys: k.keys,
-    }
+        keys: kept,
+    })
 }

@@ -1,23 +1,14 @@
 // The layouts as a program: grammar's, and behind it the instructions of the kinds that it lacks.
-ghost use Rattle.std.specs.Prelude.{◌≡◌, ◌-◌};
+ghost use Rattle.std.specs.Prelude.{◌≡◌};
 ghost use Rattle.engine.specs.Base.{has};
+ghost use Rattle.grammar.specs.Said.{wanted, child_from};
 ghost use Rattle.checker.specs.Program.{begin_in};
 ghost use Rattle.checker.specs.Leaf.{InstrAt, kinds_by, ChildAt};
-ghost use Rattle.checker.specs.LeafMore.{word_in, Shared, seat_of, sits_as};
+ghost use Rattle.checker.specs.LeafMore.{word_in, seat_of, sits_as};
 
 use grammar::kinds::Kind;
 use grammar::program;
-pub use grammar::program::{Child, Instr};
-
-// What is wanted, besides what grammar's program asks for.
-#[derive(Clone, Copy, Drop)]
-pub struct Want(pub u8);
-
-impl Want {
-    pub const ITEM: u8 = 4;
-
-    pub const KEY: u8 = 5;
-}
+pub use grammar::program::{Child, Instr, Want};
 
 // Where the program of a kind starts; 0 for the kinds that have none.
 pub fn begin(kind: u16) -> usize
@@ -83,59 +74,36 @@ pub fn instr(pc: usize) -> Instr
     }
 }
 
-// One less; 0 for 0.
-fn less(n: usize) -> usize
-    ensures { result ≡ n - 1 }
-{
-    if n == 0 { 0 } else { n - 1 }
-}
-
-// What a child of a class of grammar's program is under; every want from a condition's on is a condition's.
-fn shared(class: u8, left: usize, lines: bool) -> Child
-    ensures { Shared class left lines result }
-{
-    let c = program::child(class, left, lines);
-    if c.want < Child::CONDITION {
-        return c;
-    }
-    Child {
-        left: c.left,
-        lines: c.lines,
-        bound: c.bound,
-        want: Child::CONDITION,
-    }
-}
-
 // What a child of a class is under, in a node with so many levels left, where a line end may stand or not.
 pub fn child(class: u8, left: usize, lines: bool) -> Child
-    ensures { ChildAt class left lines result }
+    ensures { ChildAt class left lines (child_from result) }
 {
     match class {
         2 => Child {
-            left: left,
+            left,
             lines: false,
             bound: 0,
-            want: Want::KEY,
+            want: Want::Key,
         },
         3 => Child {
-            left: left,
-            lines: lines,
+            left,
+            lines,
             bound: 0,
-            want: Child::EXPRESSION,
+            want: Want::Expression,
         },
         6 => Child {
-            left: less(left),
-            lines: lines,
+            left: left.saturating_sub(1),
+            lines,
             bound: 7,
-            want: Child::EXPRESSION,
+            want: Want::Expression,
         },
         7 => Child {
-            left: less(left),
+            left: left.saturating_sub(1),
             lines: false,
             bound: 8,
-            want: Want::ITEM,
+            want: Want::Item,
         },
-        _ => shared(class, left, lines),
+        _ => program::child(class, left, lines),
     }
 }
 
@@ -192,22 +160,22 @@ pub fn seat(kind: u16) -> u16
 }
 
 // Whether what has a seat may stand where something is wanted.
-pub fn sits(want: u8, seat: usize) -> bool
-    ensures { result ≡ sits_as want seat }
+pub fn sits(want: Want, seat: usize) -> bool
+    ensures { result ≡ sits_as (wanted want) seat }
 {
     match want {
-        0 => seat / 16 % 2 == 1,
-        1 => seat / 32 % 2 == 1,
-        2 => seat / 64 % 2 == 1,
-        3 => seat / 128 % 2 == 1,
-        4 => seat / 256 % 2 == 1,
-        _ => seat / 512 % 2 == 1,
+        Want::Expression => seat / 16 % 2 == 1,
+        Want::Name => seat / 32 % 2 == 1,
+        Want::Part => seat / 64 % 2 == 1,
+        Want::Condition => seat / 128 % 2 == 1,
+        Want::Item => seat / 256 % 2 == 1,
+        Want::Key => seat / 512 % 2 == 1,
     }
 }
 
 // Whether a kind may stand where something is wanted.
-pub fn fits(want: u8, kind: u16) -> bool
-    ensures { result ≡ has (kinds_by want) kind }
+pub fn fits(want: Want, kind: u16) -> bool
+    ensures { result ≡ has (kinds_by (wanted want)) kind }
 {
     sits(want, seat(kind) as usize)
 }

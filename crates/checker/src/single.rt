@@ -1,7 +1,7 @@
 // A row with no children that is told by one look: a word or a number alone, an attribute or a name.
 ghost use Rattle.std.specs.Prelude.{◌≡◌, true, false, ◌+◌, ◌*◌, ◌≤◌, length};
 ghost use Rattle.checker.specs.Leaf.{read_as};
-ghost use Rattle.checker.specs.Node.{Token, TokenAt, SingleBy};
+ghost use Rattle.checker.specs.Node.{Token, TokenAt, look_from, SingleBy};
 ghost use Rattle.checker.specs.Told.{Telling};
 
 use crate::bare::{attribute, name};
@@ -9,13 +9,6 @@ use crate::rows::wide;
 use crate::told::keyed;
 use grammar::kinds::Kind;
 use grammar::picks::head_at;
-
-// Whether one look tells of a row, and what.
-#[derive(Clone, Copy, Drop)]
-pub struct Look {
-    pub sure: bool,
-    pub yes: bool,
-}
 
 // Whether a kind may be that of a word or a number; a bare key is read as a variable.
 fn is_token(kind: u16) -> bool
@@ -51,49 +44,28 @@ fn is_alone(table: &[u16], i: usize, kind: u16, end: usize) -> bool
     table[7 * i + 1] == 0
 }
 
-fn looked(yes: bool) -> Look
-    ensures { result ≡ record { sure = true; yes = yes } }
-{
-    Look {
-        sure: true,
-        yes: yes,
-    }
-}
-
-fn unsure() -> Look
-    ensures { result ≡ record { sure = false; yes = false } }
-{
-    Look {
-        sure: false,
-        yes: false,
-    }
-}
-
 // The rule at the i-th row, which has no children, where one look tells it: a number with a sign is left to others.
-pub fn single(s: &[u8], table: &[u16], i: usize, told: &[u16], lines: bool) -> Look
+pub fn single(s: &[u8], table: &[u16], i: usize, told: &[u16], lines: bool) -> Option<bool>
     requires { (7 * i + 7 ≤ length table.now) × Telling s.now table.now i told.now }
-    ensures { SingleBy s.now table.now i lines result }
+    ensures { SingleBy s.now table.now i lines (look_from result) }
 {
     let kind = table[7 * i];
     let start = wide(table[7 * i + 2]);
     if kind == Kind::ATTRIBUTE {
-        let yes = attribute(s, table, i, i, start);
-        return looked(yes);
+        return Some(attribute(s, table, i, i, start));
     }
     if kind == Kind::NAME {
-        let yes = name(s, table, i, i, start);
-        return looked(yes);
+        return Some(name(s, table, i, i, start));
     }
     if keyed(s, table, i, told, lines) {
-        return looked(true);
+        return Some(true);
     }
     if !is_token(kind) {
-        return unsure();
+        return None;
     }
     let h = head_at(s, start, lines);
     if h.end == start {
-        return unsure();
+        return None;
     }
-    let yes = is_alone(table, i, h.kind, h.end);
-    looked(yes)
+    Some(is_alone(table, i, h.kind, h.end))
 }

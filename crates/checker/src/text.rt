@@ -1,10 +1,9 @@
 // The text numbers of a record, and its text.
-ghost use Rattle.std.specs.Prelude.{◌≡◌, ◌+◌, ◌-◌, ◌*◌, ◌≤◌, length};
+ghost use Rattle.std.specs.Prelude.{◌≡◌, ◌+◌, ◌*◌, ◌≤◌, length};
 ghost use Rattle.lexis.specs.Bytes.{stands};
 ghost use Rattle.lexis.specs.String.{unpacked, mode_of};
-ghost use Rattle.lexis.specs.Keys.{is_quote};
 ghost use Rattle.checker.specs.Rows.{row_at};
-ghost use Rattle.checker.specs.Leaf.{Columns, PieceAt, StringAt};
+ghost use Rattle.checker.specs.Leaf.{used_from, Columns, PieceAt, StringAt};
 ghost use Rattle.checker.specs.LeafMore.{used_by, Spells, Told};
 
 use crate::row::{Row, row_at};
@@ -12,56 +11,38 @@ use crate::rows::wide;
 use lexis::bytes::{one_at, two_at};
 use lexis::string::{Run, Why, run_at, unit_at};
 
-// Whether a record's text numbers are right, and how many bytes of text are used before it.
-#[derive(Clone, Copy, Drop)]
-pub struct Used {
-    pub good: bool,
-    pub before: usize,
-}
-
-// The difference; 0 where there is none.
-fn minus(a: usize, b: usize) -> usize
-    ensures { result ≡ a - b }
-{
-    if a < b { 0 } else { a - b }
-}
-
 // The text numbers of a string or a piece, whose text without an escape is the b bytes of the source from a on.
-fn own(flag: usize, from: usize, length: usize, a: usize, b: usize, u: usize) -> Used
+fn own(flag: usize, from: usize, length: usize, a: usize, b: usize, u: usize) -> Option<usize>
     ensures { result ≡ used_by flag from length a b u }
 {
     if flag != 1 {
-        return Used {
-            good: from == a && length == b,
-            before: u,
-        };
+        return (from == a && length == b).then_some(u);
     }
-    if u < length {
-        return Used {
-            good: false,
-            before: 0,
-        };
-    }
-    Used {
-        good: from == u - length,
-        before: u - length,
-    }
+    let before = u.checked_sub(length)?;
+    (from == before).then_some(before)
 }
 
-// Whether the text numbers of the i-th record are right, u bytes of text being used up to it and with it.
-pub fn columns(table: &[u16], i: usize, u: usize) -> Used
+// How many bytes of text are used before the i-th record, u being used up to it and with it; nothing where its text numbers are wrong.
+pub fn columns(table: &[u16], i: usize, u: usize) -> Option<usize>
     requires { 7 * i + 7 ≤ length table.now }
-    ensures { Columns (row_at table.now i) u result }
+    ensures { Columns (row_at table.now i) u (used_from result) }
 {
     match table[7 * i] {
         6 => {
             let r = row_at(table, i);
-            let n = minus(r.end, r.start);
-            own(r.flag, r.from, r.length, r.start + 1, minus(n, 2), u)
+            let n = r.end.saturating_sub(r.start);
+            own(
+                r.flag,
+                r.from,
+                r.length,
+                r.start + 1,
+                n.saturating_sub(2),
+                u,
+            )
         }
         9 => {
             let r = row_at(table, i);
-            let n = minus(r.end, r.start);
+            let n = r.end.saturating_sub(r.start);
             own(r.flag, r.from, r.length, r.start, n, u)
         }
         _ => own(0, wide(table[7 * i + 5]), wide(table[7 * i + 6]), 0, 0, u),
@@ -73,13 +54,11 @@ fn holds(text: &[u8], at: usize, bytes: u32, count: u8) -> bool
     ensures { result ≡ stands (unpacked count bytes) text.now at }
 {
     let mut left = bytes;
-    let mut k = 0;
-    while k < count {
-        if !one_at(text, at + k as usize, (left % 256) as u8) {
+    for k in 0..count {
+        if !one_at(text, at + usize::from(k), (left % 256) as u8) {
             return false;
         }
         left = left / 256;
-        k += 1;
     }
     true
 }
@@ -91,17 +70,14 @@ fn spells(s: &[u8], p: usize, end: usize, plain: bool, text: &[u8], at: usize) -
     let mut i = p;
     let mut j = at;
     while i < end {
-        let u = unit_at(s, i, plain);
-        let w = u.width;
-        // every unit has a byte
-        if w == 0 {
+        let Ok(u) = unit_at(s, i, plain) else {
             return false;
-        }
+        };
         if !holds(text, j, u.bytes, u.count) {
             return false;
         }
-        i += w;
-        j += u.count as usize;
+        i += u.width;
+        j += usize::from(u.count);
     }
     true
 }
@@ -150,21 +126,6 @@ pub fn piece(
     told(s, text, r.start, plain, t, r)
 }
 
-// Whether a closing quote ends a run.
-fn is_quote(why: Why) -> bool
-    ensures { result ≡ is_quote why }
-{
-    match why {
-        Why::Quote => true,
-        Why::Interpolation => false,
-        Why::Directive => false,
-        Why::Escape => false,
-        Why::Closing => false,
-        Why::Foreign => false,
-        Why::End => false,
-    }
-}
-
 // Whether the i-th record, of a string, is the string at its start, and its text stands where it says.
 pub fn string(s: &[u8], text: &[u8], table: &[u16], i: usize) -> bool
     requires { (7 * i + 7 ≤ length table.now) × ((row_at table.now i).kind ≡ 6) }
@@ -176,8 +137,7 @@ pub fn string(s: &[u8], text: &[u8], table: &[u16], i: usize) -> bool
     }
     let p = r.start + 1;
     let t = run_at(s, p, true, 0, 0);
-    let why = t.why;
-    if !is_quote(why) {
+    if t.why != Why::Quote {
         return false;
     }
     if r.end != t.end + 1 {

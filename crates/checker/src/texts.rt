@@ -1,7 +1,6 @@
 // The text of a template or heredoc, over its pieces and interpolations.
 ghost use Rattle.std.specs.Prelude.{◌≡◌, ◌+◌, ◌*◌, ◌≤◌, length};
 ghost use Rattle.lexis.specs.Heredoc.{part};
-ghost use Rattle.grammar.specs.Hcl.{is_broken};
 ghost use Rattle.checker.specs.Texts.{LineEnds, ClosesBy, ShutsAt, OpensAt, StrandAt, Texting, TextBy};
 
 use crate::rows::wide;
@@ -51,20 +50,6 @@ fn shuts(s: &[u8], q: usize, plain: bool, d: usize, e: usize, end: usize) -> boo
     closes(s, q, d, e, why, end)
 }
 
-fn is_interpolation(why: Why) -> bool
-    ensures { result ≡ is_broken why }
-{
-    match why {
-        Why::Quote => false,
-        Why::Interpolation => true,
-        Why::Directive => false,
-        Why::Escape => false,
-        Why::Closing => false,
-        Why::Foreign => false,
-        Why::End => false,
-    }
-}
-
 // Whether an interpolation begins at q. The first test keeps a forged table from having a long run read again and again.
 fn opens(s: &[u8], q: usize, plain: bool, d: usize, e: usize) -> bool
     ensures { OpensAt s.now q plain d e result }
@@ -73,11 +58,10 @@ fn opens(s: &[u8], q: usize, plain: bool, d: usize, e: usize) -> bool
         return false;
     }
     let r = run_at(s, q, plain, d, e);
-    let why = r.why;
     if r.end != q {
         return false;
     }
-    is_interpolation(why)
+    r.why == Why::Interpolation
 }
 
 // Whether the j-th row is a piece or an interpolation of the text at q.

@@ -1,5 +1,7 @@
 -- What a place calls for, by the byte that stands there.
-use Prim.Native.Nat.{ℕ, ◌+◌}
+use Rattle.std.specs.Prelude.{unwrap_or, Option}
+use Rattle.lexis.specs.Word.{kind_or_none}
+use Prim.Native.Nat.{ℕ, zero, suc, ◌+◌}
 use mathlib.Core.Path.{◌≡◌, refl, sym, ap, ◌∙◌}
 use mathlib.Core.List.{List, [], ◌∷◌}
 use mathlib.Core.Bool.{Bool, true, false, cond, not, ◌&&◌, ◌||◌, or-false}
@@ -7,11 +9,10 @@ use mathlib.Core.Option.{none}
 use native.Mathlib.Omega.{arith}
 use lib.Dec.{eqb}
 use borrow.Author.Tests.{eq-eqb, ne_eqb, lt-ltb}
-use Rattle.lexis.specs.declared.trivia.Gap.{Gap}
 use Rattle.lexis.specs.declared.operator.Op.{Op}
 use Rattle.lexis.specs.declared.string.Run.{Run}
 use Rattle.lexis.specs.Bytes.{byte_at, is_digit, is_start, is_rest, stands, Byte, Ran}
-use Rattle.lexis.specs.Trivia.{gap_to, Gapped}
+use Rattle.lexis.specs.Trivia.{Gap, gap_to, Gapped}
 use Rattle.lexis.specs.Word.{null, yes, is_word, ident_to, for_to, constant_at}
 use Rattle.lexis.specs.Word as words
 use Rattle.lexis.specs.Operator.{op_at, OpHere, equals_to}
@@ -105,6 +106,11 @@ module _ {s : List ℕ} {p e : ℕ} (lines : Bool) {c : Bool} (h : Ran s p (iden
 
     pub word_none : k ≡ 0 → 5 ≡ word_kind s lines p
     word_none n = rw (calls_is z) (constant_none (is_word null s p) (is_word yes s p) (is_word words.no s p) k g n)
+
+-- the kind of a word by its constant: that, or a variable's
+pub kind_by : (P : ℕ → Type 0) (n : ℕ) {o : Option ℕ} {k : ℕ} → o ≡ kind_or_none n → k ≡ unwrap_or o 5 → ((n ≡ 0 → ⊥) → P n) → (n ≡ 0 → P 5) → P k
+kind_by P zero e f f₁ f₂ = rw (f, e) (f₂ refl)
+kind_by P (suc n) e f f₁ f₂ = rw (f, e) (f₁ (λ z. omega arith))
 
 -- ---- terms
 
@@ -310,25 +316,25 @@ module _ {s : List ℕ} {a : ℕ} {b : ℕ} (h : Byte s a b) where
   pub key_string : {t : Run} → b ≡ 34 → RunHere quoted s (a + 1) t → t.end + 1 ≡ key_to s a
   key_string e f = rw (eq-eqb (byte_at s a) 34 (sym h.is ∙ e)) (omega (arith, ap (λ (x : Run). x.end) f.is))
 
-module _ {s : List ℕ} {k : ℕ} {g : Gap} (a : ℕ) (h : k ≡ key_to s a) (f : Gapped false s k g) where
-  behind : g.at ≡ behind_key s a
-  behind = ap (λ (x : Gap). x.at) (f.is ∙ ap (gap_to false s) h)
+module _ (s : List ℕ) {k q : ℕ} (a : ℕ) (h : k ≡ key_to s a) (f : q ≡ (gap_to false s k).at) where
+  behind : q ≡ behind_key s a
+  behind = f ∙ ap (λ (x : ℕ). (gap_to false s x).at) h
 
-  lone_by : lone s a ≡ (not (eqb (equals_to s g.at) g.at) || colon_at s g.at)
-  lone_by = ap (λ (q : ℕ). not (eqb (equals_to s q) q) || colon_at s q) (sym behind)
+  lone_by : lone s a ≡ (not (eqb (equals_to s q) q) || colon_at s q)
+  lone_by = ap (λ (x : ℕ). not (eqb (equals_to s x) x) || colon_at s x) (sym behind)
 
-  colon_bytes : colon_at s g.at ≡ (eqb (byte_at s g.at) 58 && not ((eqb (byte_at s g.at) 58 && eqb (byte_at s (g.at + 1)) 58) || false))
-  colon_bytes = rw (stands_one 58 s g.at refl, stands_two 58 58 s g.at refl refl)
+  colon_bytes : colon_at s q ≡ (eqb (byte_at s q) 58 && not ((eqb (byte_at s q) 58 && eqb (byte_at s (q + 1)) 58) || false))
+  colon_bytes = rw (stands_one 58 s q refl, stands_two 58 58 s q refl refl)
 
-  module _ {e : ℕ} (i : Ran s g.at (equals_to s g.at) e) where
-    pub lone_equals : (e ≡ g.at → ⊥) → true ≡ lone s a
-    lone_equals n = sym (lone_by ∙ rw (ne_eqb (equals_to s g.at) g.at (λ z. n (i.is ∙ z))))
+  module _ {e : ℕ} (i : Ran s q (equals_to s q) e) where
+    pub lone_equals : (e ≡ q → ⊥) → true ≡ lone s a
+    lone_equals n = sym (lone_by ∙ rw (ne_eqb (equals_to s q) q (λ z. n (i.is ∙ z))))
 
-    module _ {b : ℕ} (z : e ≡ g.at) (c : Byte s g.at b) where
+    module _ {b : ℕ} (z : e ≡ q) (c : Byte s q b) where
       pub lone_none : (b ≡ 58 → ⊥) → false ≡ lone s a
-      lone_none n = sym (lone_by ∙ rw (eq-eqb (equals_to s g.at) g.at (sym i.is ∙ z), colon_bytes, ne_eqb (byte_at s g.at) 58 (λ w. n (c.is ∙ w))))
+      lone_none n = sym (lone_by ∙ rw (eq-eqb (equals_to s q) q (sym i.is ∙ z), colon_bytes, ne_eqb (byte_at s q) 58 (λ w. n (c.is ∙ w))))
 
-      pub lone_colon : {d : ℕ} → b ≡ 58 → Byte s (g.at + 1) d → not (eqb d 58) ≡ lone s a
+      pub lone_colon : {d : ℕ} → b ≡ 58 → Byte s (q + 1) d → not (eqb d 58) ≡ lone s a
       lone_colon n m =
           ap (λ (x : ℕ). not (eqb x 58)) m.is
-          ∙ sym (lone_by ∙ rw (eq-eqb (equals_to s g.at) g.at (sym i.is ∙ z), colon_bytes, eq-eqb (byte_at s g.at) 58 (sym c.is ∙ n), or-false (eqb (byte_at s (g.at + 1)) 58)))
+          ∙ sym (lone_by ∙ rw (eq-eqb (equals_to s q) q (sym i.is ∙ z), colon_bytes, eq-eqb (byte_at s q) 58 (sym c.is ∙ n), or-false (eqb (byte_at s (q + 1)) 58)))

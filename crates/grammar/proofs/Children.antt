@@ -6,12 +6,11 @@ use native.Mathlib.Omega.{arith}
 use lib.Dec.{T, eqb, leb, leb→le}
 use borrow.Author.Tests.{ne_eqb}
 use Rattle.engine.specs.Base.{has}
-use Rattle.grammar.specs.declared.shape.Child.{Child}
 use Rattle.grammar.specs.Moves.{an_expression, a_condition}
 use Rattle.grammar.specs.Layouts.{right}
 use Rattle.grammar.specs.Hcl.{under}
 use Rattle.grammar.specs.Code.{class_of}
-use Rattle.grammar.specs.Said.{classes, ChildOf}
+use Rattle.grammar.specs.Said.{classes, Child, ChildOf}
 use Rattle.grammar.specs.PickLaws.{listed}
 
 abbrev child : ℕ → Bool → ℕ → ℕ → Child
@@ -24,26 +23,26 @@ module _ (left : ℕ) (lines : Bool) {c : ℕ} where
   -- a level deeper
   module _ {d : ℕ} (less : d ≡ left - 1) where
     pub inside : c ≡ 0 → ChildOf c left lines (child d true 0 0)
-    inside e = at 0 e (record { down = λ s w σ ks. ap (λ (n : ℕ). under n true an_expression) (sym less); bound = refl; plain = refl; fewer = omega arith; small = λ t. omega arith; loose = λ t z. omega arith })
+    inside e = at 0 e (record { down = λ s w σ ks. ap (λ (n : ℕ). under n true an_expression) (sym less); bound = refl; plain = refl; fewer = omega arith; small = λ t. omega arith; loose = λ t z. omega arith; known = omega arith })
 
     pub single : c ≡ 1 → ChildOf c left lines (child d false 0 0)
-    single e = at 1 e (record { down = λ s w σ ks. ap (λ (n : ℕ). under n false an_expression) (sym less); bound = refl; plain = refl; fewer = omega arith; small = λ t. omega arith; loose = λ t z. omega arith })
+    single e = at 1 e (record { down = λ s w σ ks. ap (λ (n : ℕ). under n false an_expression) (sym less); bound = refl; plain = refl; fewer = omega arith; small = λ t. omega arith; loose = λ t z. omega arith; known = omega arith })
 
     pub branch : c ≡ 5 → ChildOf c left lines (child d lines 0 0)
-    branch e = at 5 e (record { down = λ s w σ ks. ap (λ (n : ℕ). under n lines an_expression) (sym less); bound = refl; plain = refl; fewer = omega arith; small = λ t. omega arith; loose = λ t z. omega arith })
+    branch e = at 5 e (record { down = λ s w σ ks. ap (λ (n : ℕ). under n lines an_expression) (sym less); bound = refl; plain = refl; fewer = omega arith; small = λ t. omega arith; loose = λ t z. omega arith; known = omega arith })
 
     pub filter : c ≡ 12 → ChildOf c left lines (child d true 8 3)
-    filter e = at 12 e (record { down = λ s w σ ks. ap (λ (n : ℕ). under n true a_condition) (sym less); bound = refl; plain = refl; fewer = omega arith; small = λ t. omega arith; loose = λ t z. omega arith })
+    filter e = at 12 e (record { down = λ s w σ ks. ap (λ (n : ℕ). under n true a_condition) (sym less); bound = refl; plain = refl; fewer = omega arith; small = λ t. omega arith; loose = λ t z. omega arith; known = omega arith })
 
   -- on the node's own level
   pub test : c ≡ 4 → ChildOf c left lines (child left lines 0 0)
-  test e = at 4 e (record { down = λ s w σ ks. refl; bound = refl; plain = refl; fewer = omega arith; small = λ t. omega arith; loose = λ t z. omega arith })
+  test e = at 4 e (record { down = λ s w σ ks. refl; bound = refl; plain = refl; fewer = omega arith; small = λ t. omega arith; loose = λ t z. omega arith; known = omega arith })
 
   pub called : c ≡ 9 → ChildOf c left lines (child left lines 8 1)
-  called e = at 9 e (record { down = λ s w σ ks. refl; bound = refl; plain = refl; fewer = omega arith; small = λ t. omega arith; loose = λ t z. omega arith })
+  called e = at 9 e (record { down = λ s w σ ks. refl; bound = refl; plain = refl; fewer = omega arith; small = λ t. omega arith; loose = λ t z. omega arith; known = omega arith })
 
   pub portion : c ≡ 10 → ChildOf c left lines (child left lines 8 2)
-  portion e = at 10 e (record { down = λ s w σ ks. refl; bound = refl; plain = refl; fewer = omega arith; small = λ t. omega arith; loose = λ t z. omega arith })
+  portion e = at 10 e (record { down = λ s w σ ks. refl; bound = refl; plain = refl; fewer = omega arith; small = λ t. omega arith; loose = λ t z. omega arith; known = omega arith })
 
 -- a right operand is what is none of these
 module _ (c : ℕ) (n0 : c ≡ 0 → ⊥) (n1 : c ≡ 1 → ⊥) (n4 : c ≡ 4 → ⊥) (n5 : c ≡ 5 → ⊥) (n9 : c ≡ 9 → ⊥) (n10 : c ≡ 10 → ⊥) (n12 : c ≡ 12 → ⊥) where
@@ -66,4 +65,5 @@ module _ (c : ℕ) (n0 : c ≡ 0 → ⊥) (n1 : c ≡ 1 → ⊥) (n4 : c ≡ 4 �
     fewer = omega arith;
     small = λ t. omega (arith, low t);
     loose = λ t z. low t;
+    known = omega arith;
   }

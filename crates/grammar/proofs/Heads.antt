@@ -7,10 +7,9 @@ use native.Mathlib.Omega.{arith}
 use lib.ListN.{length}
 use lib.Dec.{T, eqb, leb}
 use borrow.Author.Tests.{eq-eqb, ne_eqb, eqb-true, leb-true, lt-leb}
-use Rattle.lexis.specs.declared.trivia.Gap.{Gap}
 use Rattle.lexis.specs.declared.operator.Op.{Op}
 use Rattle.lexis.specs.Bytes.{byte_at, is_digit, is_start, is_rest, stands, Byte, Ran}
-use Rattle.lexis.specs.Trivia.{gap_to, Gapped}
+use Rattle.lexis.specs.Trivia.{Gap, gap_to, Gapped}
 use Rattle.lexis.specs.Word.{null, yes, is_word, ident_to, constant_at}
 use Rattle.lexis.specs.Word as words
 use Rattle.lexis.specs.Number.{number_to}

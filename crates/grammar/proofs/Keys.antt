@@ -1,5 +1,5 @@
 -- The answers of `sign_of` and `key_at`.
-use Prim.Native.Nat.{ℕ, zero, suc, ◌+◌, ◌-◌, ◌≤◌, ◌<◌}
+use Prim.Native.Nat.{ℕ, zero, suc, ◌+◌, ◌≤◌, ◌<◌}
 use mathlib.Core.Path.{◌≡◌, refl, sym, ap, subst, ◌∙◌}
 use mathlib.Core.List.{List, [], ◌∷◌}
 use mathlib.Core.Bool.{Bool, true, false, cond, not, ◌&&◌, ◌||◌, or-true}
@@ -7,19 +7,17 @@ use native.Mathlib.Omega.{arith}
 use lib.ListN.{length, drop}
 use lib.Dec.{eqb}
 use borrow.Author.Tests.{eq-eqb, ne_eqb}
-use Rattle.lexis.specs.declared.trivia.Gap.{Gap}
 use Rattle.lexis.specs.Bytes.{byte_at, is_start, is_rest, stands, run, Byte, Ran}
-use Rattle.lexis.specs.Trivia.{gap_to, Gapped}
+use Rattle.lexis.specs.Trivia.{Gap, gap_to, Gapped}
 use Rattle.lexis.specs.Word.{null, yes, is_word, ident_to, constant_at}
 use Rattle.lexis.specs.Word as words
 use Rattle.lexis.specs.Operator.{equals_to, is_mark}
 use Rattle.lexis.specs.RunLaws.{clash, stands_one, stands_two, stands_inside}
 use Rattle.lexis.specs.Keys.{key_to}
-use Rattle.grammar.specs.declared.picks.Key.{Key}
 use Rattle.grammar.specs.Moves.{behind_key, lone, to, skip, gap_step}
 use Rattle.grammar.specs.KeyLaws.{Behind, lone_behind, behind_still, behind_call, start_digit}
 use Rattle.grammar.specs.Said.{calls_at, Follow}
-use Rattle.grammar.specs.Alone.{head_of, HeadAt, SignOf, key_of, KeyAt}
+use Rattle.grammar.specs.Alone.{head_of, HeadAt, SignOf, key_of, Word}
 use Rattle.grammar.proofs.Callings.{follow_still}
 use Rattle.grammar.proofs.Heads.{head_constant, head_variable}
 
@@ -44,9 +42,6 @@ pub sign_none : (s : List ℕ) (q : ℕ) → SignOf s q 0
 sign_none s q = record { equals = λ z. absurd (omega arith); colon = λ z. absurd (omega arith); few = omega arith }
 
 -- ---- the key
-
-pub key_none : {s : List ℕ} {p : ℕ} {r : Key} → r ≡ key_of 0 p p 0 → KeyAt s p r
-key_none e = record { word = λ n. absurd (n (ap (λ (x : Key). x.end) e)) }
 
 constant_few : (s : List ℕ) (p k : ℕ) → k ≡ constant_at s p → k ≤ 3
 constant_few s p k e = go (is_word null s p) (is_word yes s p) (is_word words.no s p) e
@@ -98,28 +93,26 @@ module _ {s : List ℕ} {p e x : ℕ} {g : Gap} (st : is_start (byte_at s p) ≡
   gone : skip s false e ≡ to g.at
   gone = ap gap_step (sym gp.is) ∙ rw shut
 
-  word_as : (k : ℕ) → HeadAt s p false (head_of k e) → constant_at s p ≡ cond (eqb k 5) 0 k → 1 ≤ k → {r : Key} → r ≡ key_of k e g.at (x - 1) → KeyAt s p r
-  word_as k hd co some q = rw q (record {
-    word = λ _. record {
-      starts = st;
-      head = hd;
-      still = still;
-      ends = to_key;
-      constant = co;
-      alone = is_lone;
-      behind = behind_is;
-      gap = gone;
-      sign = subst (SignOf s g.at) (omega (arith, n)) sg;
-      some = some;
-      past = far;
-      low = gp.low;
-      high = over;
-    };
-  })
+  word_as : (φ k : ℕ) → x ≡ φ + 1 → HeadAt s p false (head_of k e) → constant_at s p ≡ cond (eqb k 5) 0 k → 1 ≤ k → Word s p (key_of k e g.at φ)
+  word_as φ k f hd co some = record {
+    starts = st;
+    head = hd;
+    still = still;
+    ends = to_key;
+    constant = co;
+    alone = is_lone;
+    behind = behind_is;
+    gap = gone;
+    sign = subst (SignOf s g.at) f sg;
+    some = some;
+    past = far;
+    low = gp.low;
+    high = over;
+  }
 
-  module _ {k : ℕ} (c : k ≡ constant_at s p) {r : Key} where
-    pub key_constant : (k ≡ 0 → ⊥) → r ≡ key_of k e g.at (x - 1) → KeyAt s p r
-    key_constant m q = word_as k (head_constant false (start_digit s (byte_at s p) st) st h no_call refl c m refl) (sym c ∙ constant_as k (constant_few s p k c)) (omega (arith, m)) q
+  module _ (φ : ℕ) {k : ℕ} (f : x ≡ φ + 1) (c : k ≡ constant_at s p) where
+    pub key_constant : (k ≡ 0 → ⊥) → Word s p (key_of k e g.at φ)
+    key_constant m = word_as φ k f (head_constant false (start_digit s (byte_at s p) st) st h no_call refl c m refl) (sym c ∙ constant_as k (constant_few s p k c)) (omega (arith, m))
 
-    pub key_variable : k ≡ 0 → r ≡ key_of 5 e g.at (x - 1) → KeyAt s p r
-    key_variable m q = word_as 5 (head_variable false (start_digit s (byte_at s p) st) st h no_call refl c m refl) (sym c ∙ m) (omega arith) q
+    pub key_variable : k ≡ 0 → Word s p (key_of 5 e g.at φ)
+    key_variable m = word_as φ 5 f (head_variable false (start_digit s (byte_at s p) st) st h no_call refl c m refl) (sym c ∙ m) (omega arith)

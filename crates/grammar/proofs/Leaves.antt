@@ -1,26 +1,25 @@
 -- The steps that the small functions make, by their tests.
-use Prim.Native.Nat.{ℕ, zero, suc, ◌+◌}
+use Prim.Native.Nat.{ℕ, zero, suc, ◌+◌, ◌-◌}
 use mathlib.Core.Path.{◌≡◌, refl, sym, ap, ◌∙◌}
 use mathlib.Core.List.{List, [], ◌∷◌}
 use mathlib.Core.Bool.{Bool, true, false, not, ◌&&◌, ◌||◌, or-false}
 use native.Mathlib.Omega.{arith}
-use lib.Dec.{eqb}
+use lib.Dec.{eqb, ltb}
+use lib.ListN.{take, drop}
 use borrow.Author.Tests.{eq-eqb, ne_eqb}
-use Rattle.lexis.specs.declared.trivia.Gap.{Gap}
-use Rattle.lexis.specs.declared.number.Index as declared
+use Rattle.lexis.specs.Number as numbers
 use Rattle.lexis.specs.declared.operator.Op.{Op}
 use Rattle.lexis.specs.Bytes.{byte_at, stands, Byte, Ran}
-use Rattle.lexis.specs.Trivia.{Gapped}
+use Rattle.lexis.specs.Trivia.{Gap, Gapped}
 use Rattle.lexis.specs.Word.{if', word_to}
 use Rattle.lexis.specs.Number.{Indexed}
 use Rattle.lexis.specs.Operator.{OpHere, is_mark, mark_to}
-use Rattle.lexis.specs.RunLaws.{stands_one, stands_two}
-use Rattle.grammar.specs.declared.moves.Went.{Went}
+use Rattle.lexis.specs.RunLaws.{clash, stands_one, stands_two}
 use Rattle.grammar.specs.Kinds.{Unexpected, Unclosed, Deep}
 use Rattle.grammar.specs.Moves as moves
 use Rattle.grammar.specs.Moves.{Want, an_expression, Under, Step, to, when, unexpected, token, Atom, index, operator, parts, unless, comma, call, gap_step, skip, level, opening, index_step, is_part, refused, atom}
 use Rattle.grammar.specs.Code.{word_of}
-use Rattle.grammar.specs.Said.{went, went_of, Does, Moved, Plain, Placed, opened, lines_of}
+use Rattle.grammar.specs.Said.{Went, went, went_of, Does, Moved, Plain, Placed, opened, lines_of}
 use Rattle.grammar.proofs.Steps.{does, fair_skip, opened_by}
 
 -- a test of a byte that was read is a test of the source
@@ -77,12 +76,20 @@ module _ (s : List ℕ) (p x : ℕ) {r : ℕ} where
   pub word_if : (x ≡ 1 → ⊥) → (x ≡ 2 → ⊥) → (x ≡ 3 → ⊥) → (x ≡ 4 → ⊥) → Ran s p (word_to if' s p) r → Ran s p (word_to (word_of x) s p) r
   word_if a b c d h = rw (ne_eqb x 1 a, ne_eqb x 2 b, ne_eqb x 3 c, ne_eqb x 4 d) h
 
+-- an index over the limit has a digit
+pub over_past : {s : List ℕ} {p : ℕ} {i : numbers.Index} → Indexed s p i → i.over ≡ true → i.end ≡ p → ⊥
+unfolding numbers.value_from
+over_past {s} {p} h o e =
+    let z : numbers.index_to s p - p ≡ 0 = omega (arith, ap (λ (x : numbers.Index). x.end) h.is) in
+    let f : true ≡ ltb numbers.limit (numbers.value (take (numbers.index_to s p - p) (drop p s))) = sym o ∙ ap (λ (x : numbers.Index). x.over) h.is in
+    clash (rw z at f)
+
 -- ---- the atoms that turn on the source alone
 
 module _ {s : List ℕ} {p : ℕ} {r : Went} where
-  pub index_is : {i : declared.Index} → Indexed s p i → r ≡ went_of (index_step s p i) → Plain s index p r
+  pub index_is : {i : numbers.Index} → Indexed s p i → r ≡ went_of (index_step s p i) → Plain s index p r
   unfolding atom
-  index_is h e = record { is = λ b σ. e ∙ ap (λ (x : declared.Index). went_of (index_step s p x)) h.is }
+  index_is h e = record { is = λ b σ. e ∙ ap (λ (x : numbers.Index). went_of (index_step s p x)) h.is }
 
   pub operator_is : {o : Op} (k : ℕ) → OpHere s p o → r ≡ went_of (when (eqb o.kind k) (to (p + o.width)) (unexpected s p)) → Plain s (operator k) p r
   unfolding atom

@@ -1,5 +1,6 @@
 pub mod Tables
 pub mod Children
+pub mod Refusals
 pub mod Steps
 pub mod Leaves
 pub mod Walks

@@ -7,9 +7,8 @@ use native.Mathlib.Omega.{arith}
 use lib.ListN.{length}
 use lib.Dec.{eqb, ltb}
 use borrow.Author.Tests.{eq-eqb, ne_eqb, eqb-true, eqb-false, ltb-true}
-use Rattle.lexis.specs.declared.trivia.Gap.{Gap}
 use Rattle.lexis.specs.Bytes.{byte_at, is_foreign, stands, Ran}
-use Rattle.lexis.specs.Trivia.{gap_to}
+use Rattle.lexis.specs.Trivia.{Gap, gap_to}
 use Rattle.lexis.specs.Word.{null, yes, in', if', ident_to, is_word, word_to, ends_for, for_to}
 use Rattle.lexis.specs.Word as words
 use Rattle.lexis.specs.Number.{number_to, index_to, index_at}
@@ -17,13 +16,12 @@ use Rattle.lexis.specs.Operator.{op_at, is_mark, mark_to}
 use Rattle.lexis.specs.RunLaws.{inside, stands_inside}
 use Rattle.lexis.specs.TriviaLaws.{gap_low, gap_high}
 use Rattle.lexis.specs.TokenLaws.{Within, ident_within, number_within, index_within, for_within, word_within, mark_within, op_wide}
-use Rattle.grammar.specs.declared.moves.Went.{Went}
 use Rattle.grammar.specs.Kinds.{Index}
 use Rattle.grammar.specs.Moves.{Want, an_expression, Under, Step, to, no, when, unexpected, token, Atom, gap, mark, opens, word, ahead, for, ident, number, index, operator, parts, unless, comma, call, any, line, here, gap_step, skip, marks, level, opening, is_part, refused, atom}
 use Rattle.grammar.specs.Hcl.{under}
 use Rattle.grammar.specs.Code.{word_of, space_of, atom_of}
 use Rattle.grammar.specs.Thrift.{takes}
-use Rattle.grammar.specs.Said.{went_of, Does, Made, Moved, Plain, Placed, opened, stayed, lines_of}
+use Rattle.grammar.specs.Said.{Went, went_of, Does, Made, Moved, Plain, Placed, opened, stayed, lines_of}
 
 -- ---- a step that is fair: made, it takes n bytes at least; refused, it has a number; its place is within the source
 abbrev pub Fair : List ℕ → ℕ → ℕ → Step → Type 0

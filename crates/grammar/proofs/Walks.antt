@@ -7,12 +7,11 @@ use native.Mathlib.Omega.{arith}
 use native.Mathlib.Numerals.{add-one}
 use lib.ListN.{length, get_or, drop}
 use borrow.Author.Tests.{eq-eqb, ne_eqb}
-use Rattle.grammar.specs.declared.moves.Went.{Went}
 use Rattle.grammar.specs.Moves.{Want, Under, Step, to, no, then, Atom, atom, Move, walk}
 use Rattle.grammar.specs.Hcl.{under}
 use Rattle.grammar.specs.Code.{atoms, atom_of, move_of, move_at}
 use Rattle.grammar.specs.Thrift.{eaten}
-use Rattle.grammar.specs.Said.{went, Made, Walked, Numbered}
+use Rattle.grammar.specs.Said.{Went, went, Made, Walked, Numbered}
 use Rattle.grammar.proofs.Steps.{does}
 
 -- ---- the move at a place of the atoms, by its first number

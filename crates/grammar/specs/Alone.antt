@@ -1,5 +1,5 @@
 -- What `head_at` and `next_at` promise: besides the kind, the end of a token that is a whole node, and the end of a binary operator.
-use Rattle.std.specs.Prelude.{ℕ, ◌+◌, ◌-◌, ◌≤◌, ◌<◌, ◌≡◌, List, [], ◌∷◌, Bool, true, false, cond, length, eqb}
+use Rattle.std.specs.Prelude.{ℕ, ◌+◌, ◌-◌, ◌≤◌, ◌<◌, ◌≡◌, List, [], ◌∷◌, Bool, true, false, cond, length, eqb, None, Some, IfSome, Option}
 use Rattle.lexis.specs.Bytes.{is_start, byte_at}
 use Rattle.lexis.specs.Word.{constant_at}
 use Rattle.lexis.specs.Operator.{equals_to, is_mark}
@@ -51,10 +51,15 @@ pub record SignOf (s : List ℕ) (q r : ℕ) : Type 0 where
   pub colon : r ≡ 2 → (equals_to s q ≡ q) × (is_mark (58 ∷ []) ((58 ∷ 58 ∷ []) ∷ []) s q ≡ true)
   pub few : r ≤ 2
 
+-- the same of the code's answer, which is the sign's flag
+abbrev pub sign_from : Option ℕ → ℕ
+sign_from None = 0
+sign_from (Some φ) = φ + 1
+
 abbrev pub key_of : ℕ → ℕ → ℕ → ℕ → Key
 key_of k e q φ = record { kind = k; end = e; at = q; flag = φ }
 
--- `r` is the key at p, where its end is not p: a word that is a whole expression, behind which no operator stands but, past same-line space, a sign
+-- `r` is the key at p: a word that is a whole expression, behind which no operator stands but, past same-line space, a sign
 pub record Word (s : List ℕ) (p : ℕ) (r : Key) : Type 0 where
   pub starts : is_start (byte_at s p) ≡ true
   pub head : HeadAt s p false (head_of r.kind r.end)
@@ -70,5 +75,6 @@ pub record Word (s : List ℕ) (p : ℕ) (r : Key) : Type 0 where
   pub low : r.end ≤ r.at
   pub high : r.at + 1 ≤ length s
 
-pub record KeyAt (s : List ℕ) (p : ℕ) (r : Key) : Type 0 where
-  pub word : (r.end ≡ p → ⊥) → Word s p r
+-- a key that is no such word is not told
+abbrev pub KeyAt : List ℕ → ℕ → Option Key → Type 0
+KeyAt s p r = IfSome r (Word s p)

@@ -1,11 +1,10 @@
 -- HCL as tables: what each place calls for, what may follow an operand, what a child is under; the language of a source for the engine.
 use Rattle.std.specs.Prelude.{ℕ, ◌+◌, ◌-◌, min, List, [], ◌∷◌, Bool, true, false, cond, not, ◌&&◌, ◌||◌, eqb, leb, ltb}
 use Rattle.std.proofs.Math.Option.{Option, none, some}
-use Rattle.lexis.specs.declared.trivia.Gap.{Gap}
 use Rattle.lexis.specs.declared.string.Why.{Why}
 use Rattle.lexis.specs.declared.string.Why.TheVariants as why
 use Rattle.lexis.specs.Bytes.{byte_at, is_digit, is_start, stands}
-use Rattle.lexis.specs.Trivia.{gap_to}
+use Rattle.lexis.specs.Trivia.{Gap, gap_to}
 use Rattle.lexis.specs.Word.{ident_to, is_word, for_to, null, yes, no}
 use Rattle.lexis.specs.Operator.{op_at, is_mark, any_of}
 use Rattle.lexis.specs.String.{quoted, text_at}

@@ -1,5 +1,7 @@
 -- 01's numbers: the kinds of nodes, the refusals, the limits; and the levels of the thirteen operators.
 use Rattle.std.specs.Prelude.{ℕ, List, [], ◌∷◌, get_or}
+use Rattle.grammar.specs.declared.kinds.Refusal.{Refusal}
+use Rattle.grammar.specs.declared.kinds.Refusal.TheVariants as refusal
 
 -- ---- refusals (01, "Lent room and the answer")
 
@@ -38,6 +40,21 @@ Slots = 11
 
 abbrev pub Text : ℕ
 Text = 12
+
+-- the number of a refusal, as the code has it
+abbrev pub number : Refusal → ℕ
+number refusal.Long = Long
+number refusal.Utf8 = Utf8
+number refusal.Foreign = Foreign
+number refusal.Unexpected = Unexpected
+number refusal.Escape = Escape
+number refusal.Unclosed = Unclosed
+number refusal.Duplicate = Duplicate
+number refusal.Deep = Deep
+number refusal.Directive = Directive
+number refusal.Index = Index
+number refusal.Slots = Slots
+number refusal.Text = Text
 
 -- ---- limits
 

@@ -7,12 +7,11 @@ use Rattle.std.proofs.Math.Bool.{true}
 use Rattle.std.proofs.Math.Logic.{inl, inr}
 use borrow.Author.Tests.{eqb-true, eqb-false}
 use Rattle.std.proofs.Math.Dec.{eqb, ltb→lt, T}
-use Rattle.lexis.specs.declared.trivia.Stop.{Stop}
 use Rattle.lexis.specs.declared.heredoc.Line.{Line}
 use Rattle.lexis.specs.declared.heredoc.Line.TheVariants as heredoc_line
 use Rattle.lexis.specs.declared.string.Why.TheVariants as why
 use Rattle.lexis.specs.Bytes.{byte_at, is_foreign, stands}
-use Rattle.lexis.specs.Trivia.{gap_to, stop_to}
+use Rattle.lexis.specs.Trivia.{Stopping, gap_to, stop_to}
 use Rattle.lexis.specs.Word.{ident_to, is_word, for_to}
 use Rattle.lexis.specs.Number.{number_to, index_to, index_at}
 use Rattle.lexis.specs.Operator.{op_at, is_mark}
@@ -74,7 +73,7 @@ module _ (s : List ℕ) where
   stop_within : (p : ℕ) → Within s p (stop_to s p).at
   stop_within p = let h = stop_ends p (drop p s) in record { low = h.low; high = omega (arith, left s p, h.high) }
 
-  pub stopping_to : (p q n : ℕ) (x : Stop) → stop_step s p n x ≡ to q → (n ≡ 1) × (x.at ≡ q)
+  pub stopping_to : (p q n : ℕ) (x : Stopping) → stop_step s p n x ≡ to q → (n ≡ 1) × (x.at ≡ q)
   stopping_to p q zero x e = not_made s p e
   stopping_to p q (suc zero) x e = (refl, to_is e)
   stopping_to p q (suc (suc n)) x e = no_to e

@@ -2,15 +2,13 @@
 -- A move is a few atoms, one after the other; the first that can't be made gives the refusal.
 use Rattle.std.specs.Prelude.{ℕ, zero, suc, ◌+◌, List, [], ◌∷◌, Bool, true, false, cond, not, ◌&&◌, ◌||◌, length, drop, eqb}
 use Rattle.std.proofs.Math.Option.{Option, none, some}
-use Rattle.lexis.specs.declared.trivia.Gap.{Gap}
-use Rattle.lexis.specs.declared.trivia.Stop.{Stop}
-use Rattle.lexis.specs.declared.number.Index as declared
+use Rattle.lexis.specs.Number as numbers
 use Rattle.lexis.specs.declared.heredoc.Line.{Line}
 use Rattle.lexis.specs.declared.heredoc.Line.TheVariants as heredoc_line
 use Rattle.lexis.specs.declared.string.Why.{Why}
 use Rattle.lexis.specs.declared.string.Why.TheVariants as why
 use Rattle.lexis.specs.Bytes.{byte_at, is_foreign, stands}
-use Rattle.lexis.specs.Trivia.{gap_to, stop_to}
+use Rattle.lexis.specs.Trivia.{Stopping, Gap, gap_to, stop_to}
 use Rattle.lexis.specs.Word.{ident_to, is_word, for_to}
 use Rattle.lexis.specs.Number.{number_to, index_at}
 use Rattle.lexis.specs.Operator.{op_at, is_mark, equals_to}
@@ -221,14 +219,14 @@ level (suc n) p x = x
 abbrev pub opening : List ℕ → ℕ → List ℕ → List (List ℕ) → ℕ → Step
 opening s left w longer p = when (is_mark w longer s p) (level left p (to (p + length w))) (unexpected s p)
 
-abbrev pub index_step : List ℕ → ℕ → declared.Index → Step
+abbrev pub index_step : List ℕ → ℕ → numbers.Index → Step
 index_step s p x = when (eqb x.end p) (unexpected s p) (when x.over (no Index p) (to x.end))
 
 abbrev pub is_part : List ℕ → ℕ → Bool
 is_part s p = is_mark (91 ∷ []) [] s p || is_mark (46 ∷ []) ((46 ∷ 46 ∷ []) ∷ []) s p
 
 -- by how a stop is: none, its end, or a line comment that the source's end cuts
-abbrev pub stop_step : List ℕ → ℕ → ℕ → Stop → Step
+abbrev pub stop_step : List ℕ → ℕ → ℕ → Stopping → Step
 stop_step s p zero x = unexpected s p
 stop_step s p (suc zero) x = to x.at
 stop_step s p (suc (suc n)) x = no Unexpected x.at

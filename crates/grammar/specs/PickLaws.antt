@@ -5,8 +5,7 @@ use Rattle.std.proofs.Common.{sym, ap, subst, arith, leb→le, eqb→eq, eqb-tru
 use Rattle.std.proofs.Math.Bool.{true, false, cond, not}
 use Rattle.std.proofs.Math.Option.{Option, none, some}
 use Rattle.std.proofs.Math.Dec.{T, leb}
-use Rattle.lexis.specs.declared.trivia.Gap.{Gap}
-use Rattle.lexis.specs.Trivia.{gap_to}
+use Rattle.lexis.specs.Trivia.{Gap, gap_to}
 use Rattle.lexis.specs.Operator.{op_at}
 use Rattle.lexis.specs.TokenLaws.{op_all}
 use Rattle.engine.specs.Base.{all_of, has, choose}

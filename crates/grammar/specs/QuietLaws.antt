@@ -7,9 +7,8 @@ use Rattle.std.proofs.Math.Bool.{true, false}
 use Rattle.std.proofs.Math.Bool as bool
 use Rattle.std.proofs.Math.Option.{none}
 use Rattle.std.proofs.Math.ListN.{length}
-use Rattle.lexis.specs.declared.trivia.Gap.{Gap}
 use Rattle.lexis.specs.Bytes.{byte_at, is_start, is_rest, begins, stands}
-use Rattle.lexis.specs.Trivia.{ends_line, starts_comment, gap_to, stop_to}
+use Rattle.lexis.specs.Trivia.{Gap, ends_line, starts_comment, gap_to, stop_to}
 use Rattle.lexis.specs.Word.{is_word}
 use Rattle.lexis.specs.Operator.{any_of, is_mark}
 use Rattle.lexis.specs.Keys.{among}

@@ -6,10 +6,9 @@ use Rattle.std.proofs.Math.Bool.{true}
 use Rattle.std.proofs.Math.Option.{Option, none, some}
 use Rattle.lexis.specs.declared.heredoc.Line.{Line}
 use Rattle.lexis.specs.declared.heredoc.Line.TheVariants as heredoc_line
-use Rattle.lexis.specs.declared.trivia.Stop.{Stop}
 use Rattle.lexis.specs.declared.string.Why.TheVariants as why
 use Rattle.lexis.specs.Bytes.{byte_at, is_foreign, stands}
-use Rattle.lexis.specs.Trivia.{gap_to, stop_to}
+use Rattle.lexis.specs.Trivia.{Stopping, gap_to, stop_to}
 use Rattle.lexis.specs.Word.{ident_to, is_word, for_to}
 use Rattle.lexis.specs.Number.{number_to, index_at}
 use Rattle.lexis.specs.Operator.{op_at, is_mark}
@@ -86,7 +85,7 @@ module _ (s : List ℕ) where
   opening_right : (n : ℕ) (w : List ℕ) (l : List (List ℕ)) (p : ℕ) → Right (opening s n w l p)
   opening_right n w l p = when_right (is_mark w l s p) (level_right n p made) (unexpected_right p)
 
-  stop_right : (p n : ℕ) (x : Stop) → Right (stop_step s p n x)
+  stop_right : (p n : ℕ) (x : Stopping) → Right (stop_step s p n x)
   stop_right p zero x = unexpected_right p
   stop_right p (suc zero) x = made
   stop_right p (suc (suc n)) x = met tt

@@ -1,17 +1,19 @@
 -- What the code of this crate promises, in records with named parts.
-use Rattle.std.specs.Prelude.{ℕ, zero, suc, ◌+◌, ◌-◌, ◌*◌, ◌≤◌, ◌≡◌, List, [], ◌∷◌, Bool, true, false, cond, not, ◌||◌, length, get_or, T, eqb}
+use Rattle.std.specs.Prelude.{ℕ, zero, suc, ◌+◌, ◌-◌, ◌*◌, ◌≤◌, ◌≡◌, List, [], ◌∷◌, Bool, true, false, cond, not, ◌||◌, length, get_or, T, eqb, Result, Ok, Err}
 use Rattle.std.proofs.Math.Option.{Option, none, some}
-use Rattle.lexis.specs.declared.trivia.Gap.{Gap}
 use Rattle.lexis.specs.Bytes.{nothing, byte_at, stands}
-use Rattle.lexis.specs.Trivia.{gap_to}
+use Rattle.lexis.specs.Trivia.{Gap, gap_to}
 use Rattle.lexis.specs.Word.{null, yes, ident_to, is_word, for_to}
 use Rattle.lexis.specs.Word as words
 use Rattle.lexis.specs.Operator.{is_mark}
 use Rattle.lexis.specs.String.{quoted, text_at}
 use Rattle.engine.specs.Base.{Rec, has}
-use Rattle.grammar.specs.declared.moves.Went.{Went}
+use Rattle.grammar.specs.declared.kinds.Refused.{Refused}
+use Rattle.grammar.specs.Kinds.{number}
 use Rattle.grammar.specs.declared.shape.Instr.{Instr}
-use Rattle.grammar.specs.declared.shape.Child.{Child}
+use Rattle.grammar.specs.declared.shape.Child as code
+use Rattle.grammar.specs.declared.shape.Want as code_want
+use Rattle.grammar.specs.declared.shape.Want.TheVariants as wants
 use Rattle.grammar.specs.Moves.{Want, an_expression, a_name, a_part, a_condition, Under, Step, to, no, when, unexpected, level, skip, Atom, atom, walk}
 use Rattle.grammar.specs.Hcl.{beyond, is_broken, pick_at, follow_at, under, downs, bounds, styles}
 use Rattle.grammar.specs.Code.{atoms, move_at, code, operation, argument, class, otherwise, class_of}
@@ -46,6 +48,25 @@ want_of (suc zero) = a_name
 want_of (suc (suc zero)) = a_part
 want_of (suc (suc (suc n))) = a_condition
 
+-- what a child is under, with what is wanted as a number
+pub record Child : Type 0 where
+  pub left : ℕ
+  pub lines : Bool
+  pub bound : ℕ
+  pub want : ℕ
+
+-- the same as the code has it
+abbrev pub wanted : code_want.Want → ℕ
+wanted wants.Expression = 0
+wanted wants.Name = 1
+wanted wants.Part = 2
+wanted wants.Condition = 3
+wanted wants.Item = 4
+wanted wants.Key = 5
+
+abbrev pub child_from : code.Child → Child
+child_from r = record { left = r.left; lines = r.lines; bound = r.bound; want = wanted r.want }
+
 -- `r` is what a child of the class is under, in a node that is under `left` and `lines`
 pub record ChildOf (c left : ℕ) (lines : Bool) (r : Child) : Type 0 where
   pub down : (s : List ℕ) (w : Want) (σ : ℕ) (ks : List (Rec ℕ)) → downs s (under left lines w) (class_of c) σ ks ≡ under r.left r.lines (want_of r.want)
@@ -54,12 +75,25 @@ pub record ChildOf (c left : ℕ) (lines : Bool) (r : Child) : Type 0 where
   pub fewer : r.left ≤ left
   pub small : T (has classes c) → r.bound ≤ 8
   pub loose : T (has classes c) → r.want ≡ 0 → r.bound ≤ 7
+  pub known : r.want ≤ 3
 
 -- ---- moves
 
--- a step as the code has it: kind 0 and the place, or the refusal and its place
+-- a step in numbers: kind 0 and the place, or the refusal and its place
+pub record Went : Type 0 where
+  pub kind : ℕ
+  pub at : ℕ
+
 abbrev pub went : ℕ → ℕ → Went
 went k q = record { kind = k; at = q }
+
+-- the same of the code's answers
+abbrev pub refused : Refused → Went
+refused e = went (number e.kind) e.at
+
+abbrev pub went_from : Result ℕ Refused → Went
+went_from (Ok q) = went 0 q
+went_from (Err e) = refused e
 
 abbrev pub went_of : Step → Went
 went_of (to q) = went 0 q

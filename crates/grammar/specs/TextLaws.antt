@@ -6,12 +6,11 @@ use Rattle.std.proofs.Math.Bool.{true, false}
 use Rattle.std.proofs.Math.Option.{none, some}
 use native.Mathlib.Omega.{arith}
 use borrow.Author.Tests.{eqb-true, eqb-false, eq-eqb, ne_eqb}
-use Rattle.lexis.specs.declared.heredoc.Opener.{Opener}
 use Rattle.lexis.specs.declared.string.Why.{Why}
 use Rattle.lexis.specs.declared.string.Why.TheVariants as why
 use Rattle.lexis.specs.Bytes.{byte_at, stands, is_start, is_foreign}
 use Rattle.lexis.specs.Word.{ident_to}
-use Rattle.lexis.specs.Heredoc.{fresh_at, line_end, fails, opens, opener_end, opener_word}
+use Rattle.lexis.specs.Heredoc.{Opener, fresh_at, line_end, fails, opens, opener_end, opener_word}
 use Rattle.lexis.specs.String.{Unit, is, not, text_at}
 use Rattle.lexis.specs.RunLaws.{stands_one, and_left, clash}
 use Rattle.engine.specs.Base.{choose}

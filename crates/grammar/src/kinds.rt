@@ -1,6 +1,9 @@
 // 01's numbers: kinds of nodes, refusals and limits.
 ghost use Rattle.std.specs.Prelude.{◌≡◌};
-ghost use Rattle.grammar.specs.Kinds.{tight_of};
+ghost use Rattle.grammar.specs.declared.kinds.Refusal.TheVariants as refusal;
+ghost use Rattle.grammar.specs.Kinds.{tight_of, number};
+
+use lexis::trivia::Unclosed;
 
 // A kind of node.
 #[derive(Clone, Copy, Drop)]
@@ -95,33 +98,68 @@ impl Kind {
 }
 
 // A refusal.
-#[derive(Clone, Copy, Drop)]
-pub struct Refusal(pub u8);
+#[derive(Clone, Copy, Debug, PartialEq, Eq, Drop)]
+pub enum Refusal {
+    Long,
+    Utf8,
+    Foreign,
+    Unexpected,
+    Escape,
+    Unclosed,
+    Duplicate,
+    Deep,
+    Directive,
+    Index,
+    Slots,
+    Text,
+}
 
 impl Refusal {
-    pub const LONG: u8 = 1;
+    // The refusal of what stands at a place.
+    pub fn at(self, place: usize) -> Refused
+        ensures { result ≡ record { kind = self; at = place } }
+    {
+        Refused {
+            kind: self,
+            at: place,
+        }
+    }
+}
 
-    pub const UTF8: u8 = 2;
+impl From<Refusal> for u8 {
+    ghost from_gives = { λ k n. n ≡ number k };
 
-    pub const FOREIGN: u8 = 3;
+    fn from(k: Refusal) -> u8 {
+        match k {
+            Refusal::Long => 1,
+            Refusal::Utf8 => 2,
+            Refusal::Foreign => 3,
+            Refusal::Unexpected => 4,
+            Refusal::Escape => 5,
+            Refusal::Unclosed => 6,
+            Refusal::Duplicate => 7,
+            Refusal::Deep => 8,
+            Refusal::Directive => 9,
+            Refusal::Index => 10,
+            Refusal::Slots => 11,
+            Refusal::Text => 12,
+        }
+    }
+}
 
-    pub const UNEXPECTED: u8 = 4;
+// A refusal and its place.
+#[derive(Clone, Copy, Debug, PartialEq, Eq, Drop)]
+pub struct Refused {
+    pub kind: Refusal,
+    pub at: usize,
+}
 
-    pub const ESCAPE: u8 = 5;
+impl From<Unclosed> for Refused {
+    ghost from_gives = { λ u r. r ≡ record { kind = refusal.Unclosed; at = u.at } };
 
-    pub const UNCLOSED: u8 = 6;
-
-    pub const DUPLICATE: u8 = 7;
-
-    pub const DEEP: u8 = 8;
-
-    pub const DIRECTIVE: u8 = 9;
-
-    pub const INDEX: u8 = 10;
-
-    pub const SLOTS: u8 = 11;
-
-    pub const TEXT: u8 = 12;
+    fn from(u: Unclosed) -> Refused {
+        Refusal::Unclosed.at(u.at)
+    }
 }
 
 // A limit of 01.

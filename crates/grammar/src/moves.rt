@@ -4,84 +4,59 @@ ghost use Rattle.lexis.specs.Bytes.{Ran};
 ghost use Rattle.lexis.specs.Word.{word_to};
 ghost use Rattle.grammar.specs.Moves.{unexpected, token, is_part, index, operator, parts, unless, comma, call};
 ghost use Rattle.grammar.specs.Code.{word_of, atom_of};
-ghost use Rattle.grammar.specs.Said.{went, went_of, Moved, Made, Walked, Plain, Placed, opened, stayed, lines_of, Numbered};
+ghost use Rattle.grammar.specs.Said.{refused, went_from, went_of, Moved, Made, Walked, Plain, Placed, opened, stayed, lines_of, Numbered};
 
-use crate::kinds::Refusal;
+use crate::kinds::{Kind, Refusal, Refused};
 use lexis::bytes::{byte_at, is_foreign, two_at};
 use lexis::number::{index_at, number_end};
 use lexis::operator::{arrow_end, colons_end, dots_end, mark_end, op_at, pair_end};
 use lexis::trivia::skip;
 use lexis::word::{for_end, ident_end, if_end, in_end, word_end};
 
-// Kind 0: gone to `at`; else a refusal and its place.
-#[derive(Clone, Copy, Drop)]
-pub struct Went {
-    pub kind: u8,
-    pub at: usize,
-}
-
-pub fn gone(p: usize) -> Went
-    ensures { result ≡ went 0 p }
-{
-    Went { kind: 0, at: p }
-}
-
-pub fn refused(kind: u8, p: usize) -> Went
-    ensures { result ≡ went kind p }
-{
-    Went { kind: kind, at: p }
-}
-
 // No rule takes what stands at p.
-pub fn unexpected(s: &[u8], p: usize) -> Went
-    ensures { result ≡ went_of (unexpected s.now p) }
+pub fn unexpected(s: &[u8], p: usize) -> Refused
+    ensures { refused result ≡ went_of (unexpected s.now p) }
 {
     if is_foreign(byte_at(s, p)) {
-        refused(Refusal::FOREIGN, p)
+        Refusal::Foreign.at(p)
     } else {
-        refused(Refusal::UNEXPECTED, p)
+        Refusal::Unexpected.at(p)
     }
 }
 
 // Past the trivia from p; `lines` says whether line endings count.
-pub fn space(s: &[u8], p: usize, lines: bool) -> Went
-    ensures { Moved s.now p lines result }
+pub fn space(s: &[u8], p: usize, lines: bool) -> Result<usize, Refused>
+    ensures { Moved s.now p lines (went_from result) }
 {
-    let g = skip(s, p, lines);
-    let at = g.at;
-    if g.unclosed {
-        refused(Refusal::UNCLOSED, at)
-    } else {
-        gone(at)
-    }
+    Ok(skip(s, p, lines)?)
 }
 
 // To the end e of a token, which is p where it does not stand.
-fn token(s: &[u8], p: usize, e: usize) -> Went
-    ensures { result ≡ went_of (token s.now p e) }
+fn token(s: &[u8], p: usize, e: usize) -> Result<usize, Refused>
+    ensures { went_from result ≡ went_of (token s.now p e) }
 {
-    if e == p { unexpected(s, p) } else { gone(e) }
+    if e == p { Err(unexpected(s, p)) } else { Ok(e) }
 }
 
 // The same, where the token opens a level.
-fn enter(s: &[u8], left: usize, p: usize, e: usize) -> Went
-    ensures { result ≡ went_of (opened s.now left p e) }
+fn enter(s: &[u8], left: usize, p: usize, e: usize) -> Result<usize, Refused>
+    ensures { went_from result ≡ went_of (opened s.now left p e) }
 {
     if e == p {
-        return unexpected(s, p);
+        return Err(unexpected(s, p));
     }
     if left == 0 {
-        refused(Refusal::DEEP, p)
+        Err(Refusal::Deep.at(p))
     } else {
-        gone(e)
+        Ok(e)
     }
 }
 
 // The same, but it stays before the token.
-fn stay(s: &[u8], p: usize, e: usize) -> Went
-    ensures { result ≡ went_of (stayed s.now p e) }
+fn stay(s: &[u8], p: usize, e: usize) -> Result<usize, Refused>
+    ensures { went_from result ≡ went_of (stayed s.now p e) }
 {
-    if e == p { unexpected(s, p) } else { gone(p) }
+    if e == p { Err(unexpected(s, p)) } else { Ok(p) }
 }
 
 // The mode of the trivia that the argument x names.
@@ -108,31 +83,30 @@ fn keyword_end(s: &[u8], p: usize, x: u8) -> usize
 }
 
 // A legacy index.
-fn legacy(s: &[u8], p: usize) -> Went
-    ensures { Plain s.now index p result }
+fn legacy(s: &[u8], p: usize) -> Result<usize, Refused>
+    ensures { Plain s.now index p (went_from result) }
 {
-    let i = index_at(s, p);
-    let e = i.end;
-    if e == p {
-        return unexpected(s, p);
-    }
-    if i.over {
-        refused(Refusal::INDEX, p)
-    } else {
-        gone(e)
+    match index_at(s, p) {
+        Ok(e) => token(s, p, e),
+        Err(_) => Err(Refusal::Index.at(p)),
     }
 }
 
 // The binary operator of a kind.
-fn operator(s: &[u8], p: usize, kind: u16) -> Went
-    ensures { Plain s.now (operator kind) p result }
+fn operator(s: &[u8], p: usize, kind: u16) -> Result<usize, Refused>
+    ensures { Plain s.now (operator kind) p (went_from result) }
 {
-    let o = op_at(s, p);
-    let w = o.width;
+    let Some(o) = op_at(s, p) else {
+        return if kind == Kind::NONE {
+            Ok(p)
+        } else {
+            Err(unexpected(s, p))
+        };
+    };
     if o.kind == kind {
-        gone(p + w)
+        Ok(p + o.width)
     } else {
-        unexpected(s, p)
+        Err(unexpected(s, p))
     }
 }
 
@@ -150,55 +124,52 @@ pub fn is_part(s: &[u8], p: usize) -> bool
     byte_at(s, p + 1) != 46
 }
 
-fn part(s: &[u8], p: usize) -> Went
-    ensures { Plain s.now parts p result }
+fn part(s: &[u8], p: usize) -> Result<usize, Refused>
+    ensures { Plain s.now parts p (went_from result) }
 {
     if is_part(s, p) {
-        gone(p)
+        Ok(p)
     } else {
-        unexpected(s, p)
+        Err(unexpected(s, p))
     }
 }
 
 // Anything but the byte x.
-fn unless(s: &[u8], p: usize, x: u8) -> Went
-    ensures { Plain s.now (unless x) p result }
+fn unless(s: &[u8], p: usize, x: u8) -> Result<usize, Refused>
+    ensures { Plain s.now (unless x) p (went_from result) }
 {
     if byte_at(s, p) == x as u16 {
-        unexpected(s, p)
+        Err(unexpected(s, p))
     } else {
-        gone(p)
+        Ok(p)
     }
 }
 
 // A comma and any trivia, or nothing.
-fn comma(s: &[u8], p: usize) -> Went
-    ensures { Plain s.now comma p result }
+fn comma(s: &[u8], p: usize) -> Result<usize, Refused>
+    ensures { Plain s.now comma p (went_from result) }
 {
     if byte_at(s, p) == 44 {
         space(s, p + 1, true)
     } else {
-        gone(p)
+        Ok(p)
     }
 }
 
 // The `(` of a call; a `::` that no name can follow is refused past its trivia.
-fn call(s: &[u8], left: usize, lines: bool, p: usize) -> Went
-    ensures { Placed s.now left lines call p result }
+fn call(s: &[u8], left: usize, lines: bool, p: usize) -> Result<usize, Refused>
+    ensures { Placed s.now left lines call p (went_from result) }
 {
     if !two_at(s, p, 58, 58) {
         return enter(s, left, p, mark_end(s, p, 40));
     }
-    let w = space(s, p + 2, lines);
-    if w.kind != 0 {
-        return w;
-    }
-    refused(Refusal::UNEXPECTED, w.at)
+    let at = space(s, p + 2, lines)?;
+    Err(Refusal::Unexpected.at(at))
 }
 
 // One atom at p, by its code and its argument.
-pub fn atom(s: &[u8], left: usize, lines: bool, code: u8, x: u8, p: usize) -> Went
-    ensures { Made s.now left lines (atom_of code x) p result }
+pub fn atom(s: &[u8], left: usize, lines: bool, code: u8, x: u8, p: usize) -> Result<usize, Refused>
+    ensures { Made s.now left lines (atom_of code x) p (went_from result) }
 {
     match code {
         1 => space(s, p, mode(x, lines)),
@@ -378,21 +349,17 @@ fn number(a: usize) -> u16
 }
 
 // The move whose atoms begin at a, from p on.
-pub fn walk(s: &[u8], left: usize, lines: bool, a: usize, p: usize) -> Went
-    ensures { Walked s.now left lines a p result }
+pub fn walk(s: &[u8], left: usize, lines: bool, a: usize, p: usize) -> Result<usize, Refused>
+    ensures { Walked s.now left lines a p (went_from result) }
 {
     let mut i = a;
     let mut q = p;
     loop {
         let x = number(i);
         if x == 0 {
-            return gone(q);
+            return Ok(q);
         }
-        let w = atom(s, left, lines, (x % 256) as u8, (x / 256) as u8, q);
-        if w.kind != 0 {
-            return w;
-        }
-        q = w.at;
+        q = atom(s, left, lines, (x % 256) as u8, (x / 256) as u8, q)?;
         i += 1;
     }
 }

@@ -5,7 +5,7 @@ ghost use Rattle.lexis.specs.Trivia.{gap_to};
 ghost use Rattle.lexis.specs.Keys.{key_to};
 ghost use Rattle.grammar.specs.Moves.{lone};
 ghost use Rattle.grammar.specs.Hcl.{is_broken};
-ghost use Rattle.grammar.specs.Alone.{head_of, HeadAt, Lasting, NextAt, key_of, SignOf, KeyAt};
+ghost use Rattle.grammar.specs.Alone.{head_of, HeadAt, Lasting, NextAt, sign_from, SignOf, KeyAt};
 ghost use Rattle.grammar.specs.Said.{TermAt, PartAt, Follow, byte_beyond, calls_at, word_kind, for_beyond, broken_at, colon_at};
 
 use crate::kinds::Kind;
@@ -24,7 +24,7 @@ pub struct Head {
     pub end: usize,
 }
 
-// A key that is a word with a sign behind it: its kind as a term, its end, the place of the sign, and 1 for `:`. The end is the key's start for any other key.
+// A key that is a word with a sign behind it: its kind as a term, its end, the place of the sign, and 1 for `:`.
 #[derive(Clone, Copy, Drop)]
 pub struct Key {
     pub kind: u16,
@@ -37,20 +37,19 @@ pub struct Key {
 fn beyond(s: &[u8], p: usize, lines: bool) -> u16
     ensures { result ≡ byte_beyond s.now (gap_to lines s.now p) }
 {
-    let g = skip(s, p, lines);
-    let at = g.at;
-    if g.unclosed { NOTHING } else { byte_at(s, at) }
+    match skip(s, p, lines) {
+        Ok(at) => byte_at(s, at),
+        Err(_) => NOTHING,
+    }
 }
 
 // Whether an identifier that ends at e is a call's.
 fn calls(s: &[u8], e: usize, lines: bool) -> bool
     ensures { result ≡ calls_at s.now lines e }
 {
-    let g = skip(s, e, lines);
-    let at = g.at;
-    if g.unclosed {
+    let Ok(at) = skip(s, e, lines) else {
         return false;
-    }
+    };
     if byte_at(s, at) == 40 {
         return true;
     }
@@ -65,8 +64,7 @@ fn word_at(s: &[u8], p: usize, lines: bool) -> u16
     if calls(s, e, lines) {
         return Kind::CALL;
     }
-    let k = constant_at(s, p);
-    if k != 0 { k } else { Kind::VARIABLE }
+    constant_at(s, p).unwrap_or(Kind::VARIABLE)
 }
 
 // What the minus before q begins.
@@ -85,11 +83,9 @@ fn minus_before(s: &[u8], q: usize) -> u16
 fn for_at(s: &[u8], q: usize, yes: u16, no: u16) -> u16
     ensures { result ≡ cond (for_beyond s.now q) yes no }
 {
-    let g = skip(s, q, true);
-    let at = g.at;
-    if g.unclosed {
+    let Ok(at) = skip(s, q, true) else {
         return no;
-    }
+    };
     if for_end(s, at) == at { no } else { yes }
 }
 
@@ -174,11 +170,7 @@ pub fn head_at(s: &[u8], p: usize, lines: bool) -> Head
     if calls(s, e, lines) {
         return headed(Kind::CALL, p);
     }
-    let k = constant_at(s, p);
-    if k != 0 {
-        return headed(k, e);
-    }
-    headed(Kind::VARIABLE, e)
+    headed(constant_at(s, p).unwrap_or(Kind::VARIABLE), e)
 }
 
 // The part of a traversal that may start at p.
@@ -212,15 +204,11 @@ pub fn part_at(s: &[u8], p: usize) -> u16
 pub fn follow(s: &[u8], p: usize, lines: bool) -> u16
     ensures { Follow s.now p lines result }
 {
-    let g = skip(s, p, lines);
-    let at = g.at;
-    if g.unclosed {
+    let Ok(at) = skip(s, p, lines) else {
         return Kind::NONE;
-    }
-    let o = op_at(s, at);
-    let k = o.kind;
-    if k != 0 {
-        return k;
+    };
+    if let Some(o) = op_at(s, at) {
+        return o.kind;
     }
     if byte_at(s, at) == 63 {
         return Kind::CONDITIONAL;
@@ -259,15 +247,11 @@ pub fn next_at(s: &[u8], p: usize, lines: bool) -> Head
     if is_last(s, p, lines) {
         return headed(Kind::NONE, p);
     }
-    let g = skip(s, p, lines);
-    let at = g.at;
-    if g.unclosed {
+    let Ok(at) = skip(s, p, lines) else {
         return headed(Kind::NONE, p);
-    }
-    let o = op_at(s, at);
-    let k = o.kind;
-    if k != 0 {
-        return headed(k, at + o.width);
+    };
+    if let Some(o) = op_at(s, at) {
+        return headed(o.kind, at + o.width);
     }
     if byte_at(s, at) == 63 {
         return headed(Kind::CONDITIONAL, p);
@@ -290,13 +274,22 @@ pub fn key_end(s: &[u8], a: usize) -> usize
     e + 1
 }
 
+// Where the same-line space from p ends; where a comment in it is unclosed, where that starts.
+pub fn space_end(s: &[u8], p: usize) -> usize
+    ensures { result ≡ (gap_to false s.now p).at }
+{
+    match skip_line(s, p) {
+        Ok(q) => q,
+        Err(e) => e.at,
+    }
+}
+
 // Whether the key of the item at a is that token alone.
 pub fn lone(s: &[u8], a: usize) -> bool
     ensures { result ≡ lone s.now a }
 {
     let k = key_end(s, a);
-    let g = skip_line(s, k);
-    let q = g.at;
+    let q = space_end(s, k);
     if equals_end(s, q) != q {
         return true;
     }
@@ -306,51 +299,40 @@ pub fn lone(s: &[u8], a: usize) -> bool
     byte_at(s, q + 1) != 58
 }
 
-// The sign at q that ends a lone key: 1 for `=`, 2 for `:`, 0 for none.
-fn sign_of(s: &[u8], q: usize) -> usize
-    ensures { SignOf s.now q result }
+// The flag of the sign at q that ends a lone key: 0 for `=`, 1 for `:`; None where there is none.
+fn sign_of(s: &[u8], q: usize) -> Option<usize>
+    ensures { SignOf s.now q (sign_from result) }
 {
     if equals_end(s, q) != q {
-        return 1;
+        return Some(0);
     }
     if byte_at(s, q) != 58 {
-        return 0;
+        return None;
     }
-    if byte_at(s, q + 1) == 58 { 0 } else { 2 }
-}
-
-fn keyed(kind: u16, end: usize, at: usize, flag: usize) -> Key
-    ensures { result ≡ key_of kind end at flag }
-{
-    Key {
-        kind,
-        end,
-        at,
-        flag,
+    if byte_at(s, q + 1) == 58 {
+        None
+    } else {
+        Some(1)
     }
 }
 
 // The key at p where it is a word alone with its sign behind it: most keys are, and are looked at once by this.
-pub fn key_at(s: &[u8], p: usize) -> Key
+pub fn key_at(s: &[u8], p: usize) -> Option<Key>
     ensures { KeyAt s.now p result }
 {
     let b = byte_at(s, p);
     if !is_start(b) {
-        return keyed(Kind::NONE, p, p, 0);
+        return None;
     }
     let e = ident_end(s, p);
-    let g = skip_line(s, e);
-    let q = g.at;
-    if g.unclosed {
-        return keyed(Kind::NONE, p, p, 0);
-    }
-    let x = sign_of(s, q);
-    if x == 0 {
-        return keyed(Kind::NONE, p, p, 0);
-    }
-    let k = constant_at(s, p);
-    if k != 0 {
-        return keyed(k, e, q, x - 1);
-    }
-    keyed(Kind::VARIABLE, e, q, x - 1)
+    let Ok(q) = skip_line(s, e) else {
+        return None;
+    };
+    let flag = sign_of(s, q)?;
+    Some(Key {
+        kind: constant_at(s, p).unwrap_or(Kind::VARIABLE),
+        end: e,
+        at: q,
+        flag,
+    })
 }

@@ -1,9 +1,9 @@
 // The layouts as a program: for each kind a start, and from there instructions to go through its moves and children.
 ghost use Rattle.std.specs.Prelude.{◌≡◌, ◌-◌};
 ghost use Rattle.grammar.specs.Code.{code, begin};
-ghost use Rattle.grammar.specs.Said.{Worded, Instructed, ChildOf};
+ghost use Rattle.grammar.specs.Said.{Worded, Instructed, child_from, ChildOf};
 
-pub use crate::shape::{Child, Instr};
+pub use crate::shape::{Child, Instr, Want};
 
 // Operation, argument, class and where to go on, a byte each, the first lowest. Long, as an array would be made anew at every look, and of a match the compiler makes a table that stays.
 fn word(pc: usize) -> u32
@@ -307,64 +307,58 @@ pub fn begin(kind: u16) -> usize
     }
 }
 
-fn less(n: usize) -> usize
-    ensures { result ≡ n - 1 }
-{
-    if n == 0 { 0 } else { n - 1 }
-}
-
 // What a child of a class is under, in a node with so many levels left, where a line end may stand or not.
 pub fn child(class: u8, left: usize, lines: bool) -> Child
-    ensures { ChildOf class left lines result }
+    ensures { ChildOf class left lines (child_from result) }
 {
     match class {
         0 => Child {
-            left: less(left),
+            left: left.saturating_sub(1),
             lines: true,
             bound: 0,
-            want: Child::EXPRESSION,
+            want: Want::Expression,
         },
         1 => Child {
-            left: less(left),
+            left: left.saturating_sub(1),
             lines: false,
             bound: 0,
-            want: Child::EXPRESSION,
+            want: Want::Expression,
         },
         4 => Child {
-            left: left,
-            lines: lines,
+            left,
+            lines,
             bound: 0,
-            want: Child::EXPRESSION,
+            want: Want::Expression,
         },
         5 => Child {
-            left: less(left),
-            lines: lines,
+            left: left.saturating_sub(1),
+            lines,
             bound: 0,
-            want: Child::EXPRESSION,
+            want: Want::Expression,
         },
         9 => Child {
-            left: left,
-            lines: lines,
+            left,
+            lines,
             bound: 8,
-            want: Child::NAME,
+            want: Want::Name,
         },
         10 => Child {
-            left: left,
-            lines: lines,
+            left,
+            lines,
             bound: 8,
-            want: Child::PART,
+            want: Want::Part,
         },
         12 => Child {
-            left: less(left),
+            left: left.saturating_sub(1),
             lines: true,
             bound: 8,
-            want: Child::CONDITION,
+            want: Want::Condition,
         },
         _ => Child {
-            left: left,
-            lines: lines,
+            left,
+            lines,
             bound: (class % 16) as usize,
-            want: Child::EXPRESSION,
+            want: Want::Expression,
         },
     }
 }

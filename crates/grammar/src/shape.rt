@@ -21,21 +21,22 @@ impl Instr {
     pub const REP: u8 = 5;
 }
 
+// What is wanted where a child stands; the program asks for no item and no key.
+#[derive(Clone, Copy, Debug, PartialEq, Eq, Drop)]
+pub enum Want {
+    Expression,
+    Name,
+    Part,
+    Condition,
+    Item,
+    Key,
+}
+
 // What a child is under: the levels left, whether a line end may stand there, the operators that are taken into it, and what is wanted.
-#[derive(Clone, Copy, Drop)]
+#[derive(Clone, Copy, Debug, PartialEq, Eq, Drop)]
 pub struct Child {
     pub left: usize,
     pub lines: bool,
     pub bound: usize,
-    pub want: u8,
-}
-
-impl Child {
-    pub const EXPRESSION: u8 = 0;
-
-    pub const NAME: u8 = 1;
-
-    pub const PART: u8 = 2;
-
-    pub const CONDITION: u8 = 3;
+    pub want: Want,
 }

@@ -1,13 +1,16 @@
 -- Laws on the search: each equal key that is left is on the path that is left.
-use Prim.Native.Nat.{ℕ, zero, suc, ◌+◌, ◌-◌, ◌*◌, ◌/◌, ◌%◌, ◌≤◌, ◌<◌}
+use Prim.Native.Nat.{ℕ, zero, suc, ◌+◌, ◌-◌, ◌*◌, ◌/◌, ◌≤◌, ◌<◌}
 use mathlib.Core.Path.{◌≡◌, refl, sym, ap, ◌∙◌}
 use mathlib.Core.List.{List}
-use mathlib.Core.Bool.{Bool, true, false, cond, not, ◌||◌}
+use mathlib.Core.Bool.{Bool, true, false, ◌||◌}
 use native.Mathlib.Omega.{arith}
-use lib.ListN.{length, get_or}
-use lib.Dec.{eqb, ltb}
-use borrow.Author.Tests.{eqb-true, eqb-false, ltb-true, ltb-false, not-true, not-false}
+use lib.ListN.{length}
+use lib.Dec.{eqb}
+use borrow.Author.Tests.{eqb-false}
+use Rattle.std.specs.Prelude.{Option, Some, None, is_none, unwrap_or}
+use Rattle.lexis.specs.Bytes.{nonzero}
 use Rattle.lexis.specs.Keys.{among, same_key}
+use Rattle.lexis.proofs.Sequences.{nonzero_none, nonzero_some}
 use Rattle.lexis.specs.RunLaws.{clash}
 use Rattle.index.specs.Mark.{mark_at}
 use Rattle.index.specs.MarkLaws.{same_mark}
@@ -103,32 +106,36 @@ module _ {s y : List ℕ} {first k : ℕ} (g : Indexed s y first k) where
           ahead = λ i a b f. let v = w.ahead i a b f in (v.0, rw d (left f v.1).1);
         }
 
--- the number that the code reads
-pub child_read : (y : List ℕ) (j h w r : ℕ) → w ≡ h % 2 → r ≡ get_or y (4 * j + 2 + w) 0 → r ≡ child_in y j h
-child_read y j h w r e f = f ∙ ap (λ (x : ℕ). get_or y (4 * j + 2 + x) 0) e
+-- the search under way, at a slot or at none: each equal key is ahead, or no key is equal
+pub record Searching (s y : List ℕ) (first k p h : ℕ) (slot : Option ℕ) : Type 0 where
+  pub ahead : (j : ℕ) → slot ≡ Some j → Seeking s y first k p h j
+  pub over : slot ≡ None → false ≡ among s (starts y first k) p
 
--- the search under way: where there are more slots, each equal key is ahead; where there are none, no key is equal
-pub record Searching (s y : List ℕ) (first k p h j : ℕ) (more : Bool) : Type 0 where
-  pub ahead : more ≡ true → Seeking s y first k p h j
-  pub over : more ≡ false → false ≡ among s (starts y first k) p
+-- how many slots are left at most
+abbrev pub left_of : ℕ → Option ℕ → ℕ
+left_of k None = 0
+left_of k (Some j) = k - j
 
 module _ {s y : List ℕ} {first k : ℕ} (g : Indexed s y first k) where
-  pub search_start : (p : ℕ) {m : ℕ} → m ≡ mark_at s p → Searching s y first k p m first (ltb first k)
-  search_start p e = record { ahead = λ z. seek_start g p (ltb-true first k z) e; over = λ z. seek_none g p (ltb-false first k z) }
+  pub search_some : (p : ℕ) {m : ℕ} → first < k → m ≡ mark_at s p → Searching s y first k p m (Some first)
+  search_some p h e = record { ahead = λ j z. let v : first ≡ j = ap (λ (o : Option ℕ). unwrap_or o 0) z in rw (← v) (seek_start g p h e); over = λ z. clash (sym (ap is_none z)) }
 
-  module _ {p h j : ℕ} (w : Seeking s y first k p h j) (e : same_key s (start_in y j) p ≡ false) {c : ℕ} (d : c ≡ child_in y j h) where
-    pub search_next : Searching s y first k p (h / 2) c (not (eqb c 0))
+  pub search_none : (p : ℕ) {m : ℕ} → k ≤ first → Searching s y first k p m None
+  search_none p h = record { ahead = λ j z. clash (ap is_none z); over = λ z. seek_none g p h }
+
+  module _ {p h j : ℕ} (w : Seeking s y first k p h j) (e : same_key s (start_in y j) p ≡ false) {o : Option ℕ} (d : o ≡ nonzero (child_in y j h)) where
+    pub search_next : Searching s y first k p (h / 2) o
     search_next = record {
-      ahead = λ z. seek_more g w e d (eqb-false c 0 (not-true (eqb c 0) z));
-      over = λ z. seek_end g w e (sym d ∙ eqb-true c 0 (not-false (eqb c 0) z));
+      ahead = λ c z. let v = nonzero_some (sym d ∙ z) in seek_more g w e v.0 v.1;
+      over = λ z. seek_end g w e (nonzero_none (sym d ∙ z));
     }
 
-    pub search_less : {more : Bool} → more ≡ true → cond (not (eqb c 0)) (k - c) 0 < cond more (k - j) 0
-    search_less m = rw m (go (eqb c 0) refl)
+    pub search_less : {slot : Option ℕ} → slot ≡ Some j → left_of k o < left_of k slot
+    search_less f = rw f (go o refl)
       where
-        go : (x : Bool) → eqb c 0 ≡ x → cond (not x) (k - c) 0 < k - j
-        go true z = omega (arith, w.high)
-        go false z = let b = seek_less g w e d (eqb-false c 0 z) in omega (arith, b.0, b.1)
+        go : (x : Option ℕ) → o ≡ x → left_of k x < k - j
+        go None z = omega (arith, w.high)
+        go (Some c) z = let v = nonzero_some (sym d ∙ z) in let b = seek_less g w e v.0 v.1 in omega (arith, b.0, b.1)
 
   pub other_mark : {p h j m : ℕ} {same : Bool} → Seeking s y first k p h j → m ≡ mark_at s p → same ≡ eqb (mark_in y j) m → same ≡ false → same_key s (start_in y j) p ≡ false
   other_mark {j = j} {m} w e f z = sym (asks_other (seek_asks g w e) (eqb-false (mark_in y j) m (sym f ∙ z)))

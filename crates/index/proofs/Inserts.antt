@@ -176,9 +176,6 @@ module _ {s y : List ℕ} {first k p m : ℕ} (g : Indexed s y first k) (fits : 
     pub walk_long : length y' ≡ length y
     walk_long = rw w.is (slot_long y k p m fits.room)
 
-    pub walk_room : 4 * j + 4 ≤ length y'
-    walk_room = omega (arith, walk_long, w.high, fits.room)
-
     module _ {c : ℕ} (d : c ≡ child_in y' j h) (n : ¬ (c ≡ 0)) where
       met_is : c ≡ child_in (slot_at y k p m) j h
       met_is = rw w.is at d

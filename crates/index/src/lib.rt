@@ -1,6 +1,7 @@
 #![tactic(auto)]
 // The earlier keys of an object: a trie over the bits of their marks, in lent numbers.
 ghost use Rattle.std.specs.Prelude.{◌≡◌, ◌+◌, ◌*◌, ◌≤◌, length, eqb};
+ghost use Rattle.lexis.specs.Bytes.{nonzero};
 ghost use Rattle.lexis.specs.Keys.{among};
 ghost use Rattle.index.specs.Mark.{mark_at};
 ghost use Rattle.index.specs.Index.{start_in, mark_in, child_in, starts, Indexed, Fits, Inserted};
@@ -10,18 +11,15 @@ use lexis::keys::same_key;
 
 pub mod mark;
 
-fn wide(x: u16) -> usize
-    ensures { result ≡ x }
-{
-    x as usize
-}
-
 // The child of the slot j on the path that goes on with h.
-fn child(keys: &[u16], j: usize, h: u16) -> usize
+fn child(keys: &[u16], j: usize, h: u16) -> Option<usize>
     requires { 4 * j + 4 ≤ length keys.now }
-    ensures { result ≡ child_in keys.now j h }
+    ensures { result ≡ nonzero (child_in keys.now j h) }
 {
-    wide(keys[4 * j + 2 + wide(h % 2)])
+    match keys[4 * j + 2 + usize::from(h % 2)] {
+        0 => None,
+        c => Some(usize::from(c)),
+    }
 }
 
 // Where the key of the slot j starts.
@@ -29,7 +27,7 @@ fn start(keys: &[u16], j: usize) -> usize
     requires { 4 * j + 4 ≤ length keys.now }
     ensures { result ≡ start_in keys.now j }
 {
-    wide(keys[4 * j])
+    usize::from(keys[4 * j])
 }
 
 // Whether the mark of the slot j is m.
@@ -48,18 +46,15 @@ pub fn find(s: &[u8], keys: &[u16], first: usize, k: usize, p: usize, m: u16) ->
 {
     let b = byte_at(s, p);
     let mut h = m;
-    let mut j = first;
-    let mut more = first < k;
+    let mut slot = if first < k { Some(first) } else { None };
     'slots: loop {
-        if !more {
+        let Some(j) = slot else {
             return false;
-        }
+        };
         let a = start(keys, j);
         let same = has_mark(keys, j, m);
-        let c = child(keys, j, h);
-        j = c;
+        slot = child(keys, j, h);
         h = h / 2;
-        more = c != 0;
         if !same {
             continue 'slots;
         }
@@ -108,13 +103,9 @@ pub fn insert(s: &[u8], keys: &mut [u16], first: usize, k: usize, p: usize, m: u
     }
     let mut h = m;
     let mut j = first;
-    loop {
-        let c = child(keys, j, h);
-        if c == 0 {
-            keys[4 * j + 2 + wide(h % 2)] = k as u16;
-            return;
-        }
+    while let Some(c) = child(keys, j, h) {
         j = c;
         h = h / 2;
     }
+    keys[4 * j + 2 + usize::from(h % 2)] = k as u16;
 }

@@ -1,5 +1,5 @@
 // The mark of a key: a number that equal keys share.
-ghost use Rattle.std.specs.Prelude.{◌≡◌, ◌≤◌, drop, true};
+ghost use Rattle.std.specs.Prelude.{◌≡◌, ◌≤◌, length, drop, true};
 ghost use Rattle.lexis.specs.Bytes.{byte_at, is_start};
 ghost use Rattle.lexis.specs.Keys.{rest_of};
 ghost use Rattle.lexis.specs.String.{quoted, text_at, unpacked};
@@ -18,18 +18,18 @@ fn mix(m: u32, b: u32) -> u32
 
 // The mark of the identifier characters from p on.
 fn word(s: &[u8], p: usize) -> u32
+    requires { p ≤ length s.now }
     ensures { Mixed 0 (rest_of (drop p s.now)) result }
 {
     let mut m: u32 = 0;
-    let mut i = p;
-    loop {
-        let b = byte_at(s, i);
+    for b in &s[p..] {
+        let b = u16::from(*b);
         if !is_rest(b) {
             return m;
         }
-        m = mix(m, b as u32);
-        i += 1;
+        m = mix(m, u32::from(b));
     }
+    m
 }
 
 // The mark m with the bytes of a unit behind it: they are in one number, the first lowest, and n of them.
@@ -39,11 +39,9 @@ fn unit(m: u32, bytes: u32, n: u8) -> u32
 {
     let mut m = m;
     let mut left = bytes;
-    let mut n = n;
-    while n != 0 {
+    for _k in 0..n {
         m = mix(m, left % 256);
         left = left / 256;
-        n -= 1;
     }
     m
 }
@@ -54,15 +52,11 @@ fn text(s: &[u8], p: usize) -> u32
 {
     let mut m: u32 = 0;
     let mut i = p;
-    loop {
-        let u = unit_at(s, i, true);
-        let w = u.width;
-        if w == 0 {
-            return m;
-        }
+    while let Ok(u) = unit_at(s, i, true) {
         m = unit(m, u.bytes, u.count);
-        i += w;
+        i += u.width;
     }
+    m
 }
 
 // The mark of the key at p, which is a word that ends at e: nothing but its bytes is looked at.
@@ -71,10 +65,8 @@ pub fn word_to(s: &[u8], p: usize, e: usize) -> u16
     ensures { result ≡ mark_at s.now p }
 {
     let mut m: u32 = 0;
-    let mut i = p;
-    while i < e {
-        m = mix(m, s[i] as u32);
-        i += 1;
+    for b in &s[p..e] {
+        m = mix(m, u32::from(*b));
     }
     m as u16
 }
@@ -106,25 +98,18 @@ fn word_at(s: &[u8], p: usize) -> Token
     ensures { TokenHere s.now p result }
 {
     let mut m: u32 = 0;
-    let mut i = p;
-    while i < s.len() {
-        let b = byte_at(s, i);
-        if within(b, 97, 122) {
-            m = mix(m, b as u32);
-            i += 1;
-            continue;
-        }
-        if !is_rest(b) {
+    for i in p..s.len() {
+        let b = s[i] as u16;
+        if !within(b, 97, 122) && !is_rest(b) {
             return Token {
                 end: i,
                 mark: m as u16,
             };
         }
         m = mix(m, b as u32);
-        i += 1;
     }
     Token {
-        end: i,
+        end: s.len(),
         mark: m as u16,
     }
 }

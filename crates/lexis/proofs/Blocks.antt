@@ -1,23 +1,35 @@
 -- Laws on blocks of ASCII: the greatest byte of a block, and the good bytes behind a block whose bytes are all ASCII.
 use Prim.Native.Nat.{ℕ, zero, suc, ◌+◌, ◌-◌, ◌≤◌, ◌<◌, max}
-use mathlib.Core.Path.{◌≡◌}
+use mathlib.Core.Path.{◌≡◌, ◌∙◌}
 use mathlib.Core.List.{List, [], ◌∷◌}
 use mathlib.Core.Bool.{true}
-use native.Mathlib.Nat.{add-zero}
 use native.Mathlib.Omega.{arith}
 use lib.ListN.{length, get_or, take, drop, length-drop}
 use lib.Dec.{leb, ltb}
-use lib.Seq.{drop-cons, drop-drop}
-use borrow.Author.Tests.{leb-true, ltb-true, le-leb, lt-leb}
+use lib.Seq.{drop-cons, drop-drop, get_or-drop}
+use Rattle.std.proofs.lemmas.List.{get_or-take, length-take-le}
+use borrow.Author.Tests.{leb-true, ltb-true}
 use Rattle.lexis.specs.RunLaws.{and_left, and_right}
 use Rattle.lexis.specs.Utf8.{sequence, greatest, ascii_block, first_bad}
 use Rattle.lexis.proofs.Sequences.{by_ascii, good_step}
 
+-- a part of a source, gone over byte by byte
+module _ (s : List ℕ) (p e k : ℕ) (h : e ≤ length s) where
+  part_long : length (take (e - p) (drop p s)) ≡ e - p
+  part_long = length-take-le (e - p) (drop p s) (omega (arith, length-drop p s))
+
+  pub part_over : length (take (e - p) (drop p s)) ≤ k → e ≤ p + k
+  part_over n = omega (arith, part_long)
+
+  module _ (n : k < length (take (e - p) (drop p s))) where
+    pub part_inside : p + k < e
+    part_inside = omega (arith, part_long)
+
+    pub part_read : get_or (take (e - p) (drop p s)) k 0 ≡ get_or s (p + k) 0
+    part_read = get_or-take (e - p) (drop p s) k 0 (omega (arith, part_long)) ∙ get_or-drop p s k 0
+
 -- the loop over a block: m and the greatest of what is left are the greatest of the block
 module _ (s : List ℕ) (p : ℕ) where
-  pub greatest_start : max 0 (greatest (take 64 (drop (p + 0) s))) ≡ greatest (take 64 (drop p s))
-  greatest_start = rw add-zero (omega arith)
-
   pub greatest_on : (i m : ℕ) → i < 64 → p + i < length s
       → max (max m (get_or s (p + i) 0)) (greatest (take (64 - (i + 1)) (drop (p + (i + 1)) s))) ≡ max m (greatest (take (64 - i) (drop (p + i) s)))
   unfolding greatest
@@ -54,11 +66,3 @@ module _ (s : List ℕ) (i : ℕ) (e : ascii_block (drop i s) ≡ true) where
   block_on =
       let g : greatest (take 64 (drop i s)) < 0x80 = ltb-true _ _ (and_right (leb 64 (length (drop i s))) (ltb (greatest (take 64 (drop i s))) 0x80) e) in
       rw (← drop-drop 64 i s) (omega (arith, ascii_pass 64 (drop i s) long g))
-
--- whether a block of ASCII stands at a place
-module _ (s : List ℕ) (p : ℕ) where
-  pub block_long : (h : ℕ) → 64 ≤ length s - p → h ≡ greatest (take 64 (drop p s)) → ltb h 0x80 ≡ ascii_block (drop p s)
-  block_long h l e = rw (length-drop p s, le-leb 64 (length s - p) l, e)
-
-  pub block_short : length s - p < 64 → leb 64 (length s - p) ≡ ascii_block (drop p s)
-  block_short l = rw (length-drop p s, lt-leb 64 (length s - p) l)

@@ -1,28 +1,24 @@
 -- Laws on the lines of a heredoc: parts of the source, a delimiter byte by byte, and what a line is by what stands behind the delimiter.
 use Prim.Native.Nat.{ℕ, zero, suc, ◌+◌, ◌-◌, ◌≤◌, ◌<◌, min}
-use mathlib.Core.Path.{◌≡◌, refl, sym, ◌∙◌}
+use mathlib.Core.Path.{◌≡◌, refl, sym, ap, ◌∙◌}
 use mathlib.Core.List.{List, [], ◌∷◌}
 use mathlib.Core.Bool.{Bool, true, false, cond}
-use native.Mathlib.Decide.{dec_le, dec_lt}
+use native.Mathlib.Decide.{dec_le}
 use native.Mathlib.Omega.{arith}
-use lib.ListN.{length, get_or, drop, length-drop}
+use lib.ListN.{length, take, drop, length-drop}
 use lib.Dec.{eqb}
 use lib.Seq.{drop-drop, take-nil, get_or-drop}
-use borrow.Author.Tests.{eq-eqb, ne_eqb}
+use Rattle.std.proofs.lemmas.List.{take_all}
 use Rattle.lexis.specs.Bytes.{byte_at, is_space, is_rest, is_foreign, run, run_to, begins}
 use Rattle.lexis.specs.Heredoc.{part, ends_by, closing, line_as, line_at, fresh_at}
 use Rattle.lexis.specs.declared.heredoc.Line.{Line}
 use Rattle.lexis.specs.declared.heredoc.Line.TheVariants.{Text, Closes, Foreign}
-use Rattle.lexis.specs.RunLaws.{next, empty, default, clash, and_right, inside, run_high}
+use Rattle.lexis.specs.RunLaws.{next, empty, clash, and_right, inside, run_high}
 
 -- a line starts behind LF
 pub fresh_behind : (s : List ℕ) (p : ℕ) → (p ≡ 0 → ⊥) → fresh_at s p ≡ eqb (byte_at s (p - 1)) 10
 fresh_behind s zero h = absurd (h refl)
 fresh_behind s (suc p) h = let e : suc p - 1 ≡ p = omega arith in rw e
-
--- a byte within a slice
-pub byte_small : (s : List ℕ) (k : ℕ) → k < length s → get_or s k 0 < 256 → byte_at s k < 256
-byte_small s k h f = rw (← default s k 0 256 h) f
 
 module _ (s : List ℕ) (e k : ℕ) where
   pub part_next : k < min e (length s) → part s k e ≡ byte_at s k ∷ part s (k + 1) e
@@ -37,22 +33,16 @@ module _ (s : List ℕ) (e k : ℕ) where
       go (yes l) = let n : e - k ≡ 0 = omega arith in rw n
       go (no l) = rw (empty s k (omega arith), take-nil {A = ℕ} (e - k))
 
-  -- the next byte of a delimiter stands at j, or does not
-  module _ (j : ℕ) (h : k < min e (length s)) where
-    pub part_hit : byte_at s j ≡ byte_at s k → j < length s → begins (part s (k + 1) e) (drop (j + 1) s) ≡ begins (part s k e) (drop j s)
-    unfolding begins
-    part_hit f l = rw (part_next h, next s j l, eq-eqb (byte_at s j) (byte_at s k) f)
-
-    pub part_miss : (byte_at s j ≡ byte_at s k → ⊥) → begins (part s k e) (drop j s) ≡ false
-    unfolding begins
-    part_miss f = go (dec_lt j (length s))
-      where
-        go : Dec (j < length s) → begins (part s k e) (drop j s) ≡ false
-        go (yes l) = rw (part_next h, next s j l, ne_eqb (byte_at s j) (byte_at s k) f)
-        go (no l) = rw (part_next h, empty s j (omega arith))
-
-    pub part_long : (j + 1) + length (part s (k + 1) e) ≡ j + length (part s k e)
-    part_long = rw (part_next h) (omega arith)
+-- the slice that the code takes is that part of the source
+pub part_slice : (s : List ℕ) (d e : ℕ) {t f : ℕ} → t ≡ min e (length s) → f ≡ min d t → take (t - f) (drop f s) ≡ part s d e
+part_slice s d e {t} {f} h k = go (dec_le d t) (dec_le e (length s))
+  where
+    go : Dec (d ≤ t) → Dec (e ≤ length s) → take (t - f) (drop f s) ≡ part s d e
+    go (no l) m = let n : t - f ≡ 0 = omega arith in rw n (sym (part_none s e d (omega arith)))
+    go (yes l) (yes m) = let n : f ≡ d = omega arith in let o : t ≡ e = omega arith in rw (n, o)
+    go (yes l) (no m) =
+        let n : f ≡ d = omega arith in
+        rw n (take_all (t - d) (drop d s) (omega (arith, length-drop d s)) ∙ sym (take_all (e - d) (drop d s) (omega (arith, length-drop d s))))
 
 -- what a line is, by its delimiter D and the place q behind its spaces
 module _ (D s : List ℕ) (p q : ℕ) (e : q ≡ run_to is_space s p) where
@@ -88,16 +78,9 @@ module _ (j b : ℕ) where
   pub ends_closes : is_rest b ≡ false → is_foreign b ≡ false → ends_by j b ≡ Closes j
   ends_closes e f = rw (e, f)
 
--- the whole delimiter stands behind the spaces
-pub delimited : (s : List ℕ) (d e p q j k b : ℕ) → q ≡ run_to is_space s p
-    → begins (part s k e) (drop j s) ≡ begins (part s d e) (drop q s) → j + length (part s k e) ≡ q + length (part s d e)
-    → min e (length s) ≤ k → b ≡ byte_at s j → line_at (part s d e) s p ≡ ends_by j b
-unfolding begins
-delimited s d e p q j k b f g h l m =
-    let n : part s k e ≡ [] = part_none s e k l in
-    let g' : begins (part s d e) (drop q s) ≡ true = sym g ∙ rw n in
-    let h' : j ≡ q + length (part s d e) = omega (arith, rw n at h) in
-    rw m (line_ends (part s d e) s p q f j g' h')
+-- a line by a delimiter that is the same
+pub line_by : (s : List ℕ) (p : ℕ) {D E : List ℕ} {x : Line} → D ≡ E → line_at D s p ≡ x → x ≡ line_at E s p
+line_by s p e f = sym f ∙ ap (λ (D : List ℕ). line_at D s p) e
 
 -- where a delimiter ends: within the source, and a foreign scalar stands there
 abbrev Within : List ℕ → Line → Type 0

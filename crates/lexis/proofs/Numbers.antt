@@ -5,18 +5,12 @@ use mathlib.Core.List.{List, [], ◌∷◌}
 use mathlib.Core.Bool.{Bool, true, false, cond}
 use native.Mathlib.Omega.{arith}
 use lib.ListN.{length, take, drop}
-use lib.Dec.{leb, ltb}
-use borrow.Author.Tests.{ne_eqb, leb-true, lt-ltb, le-ltb}
+use lib.Dec.{ltb}
+use borrow.Author.Tests.{ne_eqb, lt-ltb, le-ltb}
 use Rattle.lexis.specs.Bytes.{byte_at, is_digit, run, Ran}
 use Rattle.lexis.specs.Number.{digits_to, fraction_to, sign_to, is_exponent, exponent_to, number_to, value_from, value, limit, index_at}
-use Rattle.lexis.specs.RunLaws.{here, inside, next, run_on, run_stop, and_left, and_right}
+use Rattle.lexis.specs.RunLaws.{here, inside, next, run_on, run_stop}
 use Rattle.lexis.proofs.Runs.{run_first, run_later}
-
-pub digit_low : (b : ℕ) → is_digit b ≡ true → 48 ≤ b
-digit_low b e = leb-true 48 b (and_left (leb 48 b) (leb b 57) e)
-
-pub digit_high : (b : ℕ) → is_digit b ≡ true → b ≤ 57
-digit_high b e = leb-true b 57 (and_right (leb 48 b) (leb b 57) e)
 
 -- the code's test, which does not overflow: ten times v and d are over k
 pub over_by : (k d v : ℕ) → (k - d) / 10 < v → k < v * 10 + d
@@ -31,23 +25,14 @@ module _ (s : List ℕ) (p : ℕ) {r : ℕ} (h : Ran s p (digits_to s p) r) wher
   a_digit n = run_later is_digit s p (λ e. n (h.is ∙ e))
 
 module _ (s : List ℕ) (p : ℕ) where
-  pub no_fraction : (byte_at s p ≡ 46 → ⊥) → fraction_to s p ≡ p
-  no_fraction n = rw (ne_eqb (byte_at s p) 46 n)
-
   pub fraction : {d : Bool} → byte_at s p ≡ 46 → is_digit (byte_at s (p + 1)) ≡ d → fraction_to s p ≡ cond d (digits_to s (p + 1)) p
   fraction e f = rw (e, f)
 
   pub no_sign : (byte_at s p ≡ 43 → ⊥) → (byte_at s p ≡ 45 → ⊥) → sign_to s p ≡ p
   no_sign n m = rw (ne_eqb (byte_at s p) 43 n, ne_eqb (byte_at s p) 45 m)
 
-  pub no_exponent : is_exponent (byte_at s p) ≡ false → exponent_to s p ≡ p
-  no_exponent e = rw e
-
   pub exponent : {q : ℕ} {d : Bool} → is_exponent (byte_at s p) ≡ true → q ≡ sign_to s (p + 1) → is_digit (byte_at s q) ≡ d → exponent_to s p ≡ cond d (digits_to s q) p
   exponent e f g = rw (e, ← f, g)
-
-  pub no_number : is_digit (byte_at s p) ≡ false → number_to s p ≡ p
-  no_number e = rw e
 
   pub number_is : {d f r : ℕ} → is_digit (byte_at s p) ≡ true → d ≡ digits_to s p → f ≡ fraction_to s d → r ≡ exponent_to s f → r ≡ number_to s p
   number_is e g h k = k ∙ ap (exponent_to s) (h ∙ ap (fraction_to s) g) ∙ sym whole

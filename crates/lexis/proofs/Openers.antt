@@ -2,17 +2,11 @@
 use Prim.Native.Nat.{ℕ, ◌+◌, ◌-◌, ◌≤◌}
 use mathlib.Core.Path.{◌≡◌, refl, sym, ◌∙◌}
 use mathlib.Core.List.{List, [], ◌∷◌}
-use mathlib.Core.Bool.{Bool, true, false, cond}
+use mathlib.Core.Bool.{true, false}
 use native.Mathlib.Omega.{arith}
 use lib.ListN.{length}
-use lib.Dec.{eqb}
-use borrow.Author.Tests.{ne_eqb}
-use Rattle.lexis.specs.Bytes.{byte_at, is_start, is_rest, run_to, stands, Ran}
-use Rattle.lexis.specs.Trivia.{Ending}
-use Rattle.lexis.specs.Word.{ident_to}
-use Rattle.lexis.specs.Heredoc.{fails, opens, opener_word, opener_at, Opened}
-use Rattle.lexis.specs.declared.heredoc.Opener.{Opener}
-use Rattle.lexis.proofs.Runs.{unmoved, moved}
+use Rattle.lexis.specs.Bytes.{stands}
+use Rattle.lexis.specs.Heredoc.{Opener, fails, opener_word, opener_at, Opened}
 use Rattle.lexis.specs.RunLaws.{stands_one, stands_two, stands_inside}
 
 no_opener : {s : List ℕ} (p : ℕ) {q : ℕ} {r o : Opener} → r ≡ fails q → o ≡ fails q → p ≤ q → q ≤ p + (length s - p) → Opened o s p r
@@ -24,32 +18,6 @@ no_opener p e f l h =
       named = rw e (omega arith);
       ended = rw e (omega arith);
     }
-
--- an opener from its delimiter on, which the code finds from d to e
-module _ {s : List ℕ} {d e : ℕ} (f : Bool) (h : Ran s d (ident_to s d) e) where
-  pub word_none : {r : Opener} → e ≡ d → r ≡ fails d → Opened (opener_word s f d) s d r
-  word_none k g =
-      let n : is_start (byte_at s d) ≡ false = unmoved d (run_to is_rest s (d + 1)) (is_start (byte_at s d)) (omega arith) (sym h.is ∙ k) in
-      no_opener d g (rw n) (omega arith) (omega arith)
-
-  module _ (n : e ≡ d → ⊥) {w : ℕ} (l : Ending s e w) where
-    word_here : opener_word s f d ≡ cond (eqb w 0) (fails e) (opens f d e (e + w))
-    word_here =
-        let y : is_start (byte_at s d) ≡ true = moved d (run_to is_rest s (d + 1)) (is_start (byte_at s d)) (λ k. n (h.is ∙ k)) in
-        rw (l.is, h.is, y)
-
-    pub word_line : {r : Opener} → w ≡ 0 → r ≡ fails e → Opened (opener_word s f d) s d r
-    word_line k g = no_opener d g (word_here ∙ rw k) h.low h.high
-
-    pub word_good : (w ≡ 0 → ⊥) → Opened (opener_word s f d) s d (opens f d e (e + w))
-    word_good k =
-        record {
-          is = sym (word_here ∙ rw (ne_eqb w 0 k));
-          low = omega arith;
-          high = omega arith;
-          named = h.low;
-          ended = omega arith;
-        }
 
 -- an opener by its first bytes
 module _ (s : List ℕ) (p : ℕ) where

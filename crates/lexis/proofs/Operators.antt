@@ -8,7 +8,8 @@ use lib.Dec.{eqb, leb, leb→le}
 use borrow.Author.Tests.{ne_eqb}
 use Rattle.lexis.specs.declared.operator.Op.{Op}
 use Rattle.lexis.specs.Bytes.{byte_at, stands, Ran}
-use Rattle.lexis.specs.Operator.{op, no_op, op_at, OpHere, any_of, mark_to, equals_to}
+use Rattle.std.specs.Prelude.{Option, None, IfSome}
+use Rattle.lexis.specs.Operator.{op, op_of, no_op, op_at, OpHere, any_of, mark_to, equals_to}
 use Rattle.lexis.specs.RunLaws.{stands_cons, stands_one, stands_two, stands_on}
 use Rattle.lexis.specs.TokenLaws.{op_wide, op_all, mark_ends}
 
@@ -76,10 +77,22 @@ module _ (s : List ℕ) (p : ℕ) where
         ne_eqb (byte_at s p) 45 e,
       )
 
--- a choice between two operators that are known
-pub chosen : (s : List ℕ) (p b : ℕ) {r two one t o : Op} → r ≡ cond (stands (b ∷ []) s (p + 1)) two one → two ≡ t → one ≡ o
+-- a choice between two answers that are known
+pub chosen : (s : List ℕ) (p b : ℕ) {r two one t o : Option Op} → r ≡ cond (stands (b ∷ []) s (p + 1)) two one → two ≡ t → one ≡ o
     → r ≡ cond (stands (b ∷ []) s (p + 1)) t o
 chosen s p b e f g = e ∙ rw (f, g)
+
+-- an operator has a kind
+abbrev pub Named : Option Op → Type 0
+Named r = IfSome r (λ o. 0 < o.kind)
+
+chosen_op : (b : Bool) (t o : Option Op) → op_of (cond b t o) ≡ cond b (op_of t) (op_of o)
+chosen_op true t o = refl
+chosen_op false t o = refl
+
+chosen_named : (b : Bool) (t o : Option Op) → Named t → Named o → Named (cond b t o)
+chosen_named true t o h k = h
+chosen_named false t o h k = k
 
 -- the bounds that the contract has, from the table
 pub op_here : (s : List ℕ) (p : ℕ) {r : Op} → r ≡ op_at s p → OpHere s p r
@@ -95,11 +108,26 @@ op_here s p e =
       tight = leb→le (op_at s p).level 6 (op_all (λ o. leb o.level 6) tt s p);
     })
 
--- the end of a mark: where its bytes do not stand, where a longer token stands, and where neither is so
-module _ (w : List ℕ) (longer : List (List ℕ)) (s : List ℕ) (p : ℕ) where
-  pub mark_off : stands w s p ≡ false → mark_to w longer s p ≡ p
-  mark_off e = rw e
+-- the answer that is known, and the one by the byte behind
+module _ (s : List ℕ) (p : ℕ) {r : Option Op} where
+  pub answer : (o : Option Op) → r ≡ o → op_at s p ≡ op_of o → Named o → record { here : OpHere s p (op_of r); named : Named r }
+  answer o e f h = record { here = op_here s p (ap op_of e ∙ sym f); named = rw e h }
 
+  pub answer_by : (b : ℕ) (t o : Option Op) → r ≡ cond (stands (b ∷ []) s (p + 1)) t o
+      → op_at s p ≡ cond (stands (b ∷ []) s (p + 1)) (op_of t) (op_of o) → Named t → Named o → record { here : OpHere s p (op_of r); named : Named r }
+  answer_by b t o e f h k =
+      let v = stands (b ∷ []) s (p + 1) in
+      answer (cond v t o) e (f ∙ sym (chosen_op v t o)) (chosen_named v t o h k)
+
+  pub answer_slash : (o : Option Op) → r ≡ cond (stands (47 ∷ []) s (p + 1)) None (cond (stands (42 ∷ []) s (p + 1)) None o)
+      → op_at s p ≡ cond (stands (47 ∷ []) s (p + 1)) no_op (cond (stands (42 ∷ []) s (p + 1)) no_op (op_of o)) → Named o
+      → record { here : OpHere s p (op_of r); named : Named r }
+  answer_slash o e f h =
+      let w = stands (42 ∷ []) s (p + 1) in
+      answer_by 47 None (cond w None o) e (f ∙ ap (cond (stands (47 ∷ []) s (p + 1)) no_op) (sym (chosen_op w None o))) tt (chosen_named w None o tt h)
+
+-- the end of a mark: where its bytes stand, by whether a longer token does
+module _ (w : List ℕ) (longer : List (List ℕ)) (s : List ℕ) (p : ℕ) where
   pub mark_by_lem : {b : Bool} → stands w s p ≡ true → any_of longer s p ≡ b → mark_to w longer s p ≡ cond (not b) (p + length w) p
   mark_by_lem e f = rw (e, f)
 

@@ -11,11 +11,14 @@ use borrow.Author.Tests.{eq-eqb, ne_eqb}
 use Rattle.lexis.specs.Bytes.{byte_at}
 use Rattle.lexis.specs.Utf8.{is_scalar, encoded}
 use Rattle.lexis.specs.Heredoc.{fresh_at}
-use Rattle.lexis.specs.String.{Unit, is, not, quoted, Text, hexes, scalar_as, escape, marker, unit, unit_in, text_at, packed, piece_of, UnitHere}
+use Rattle.lexis.specs.String.{Unit, is, not, quoted, Text, hexes, scalar_as, escape, marker, unit, unit_in, text_at, packed, Piece, piece_of, piece_from, UnitAt}
+use Rattle.std.specs.Prelude.{Ok, Err}
+use Rattle.lexis.specs.declared.string.Unit.{Unit as Made}
 use Rattle.lexis.specs.Keys.{Key, plain, other, is_quote, plain_as, string_at, alike, same_as}
 use Rattle.lexis.specs.declared.string.Why.{Why}
-use Rattle.lexis.specs.declared.string.Why.TheVariants.{Quote, Interpolation, Directive, Escape}
-use Rattle.lexis.specs.declared.string.Piece.{Piece}
+use Rattle.lexis.specs.declared.string.Why.TheVariants.{Quote, Interpolation, Directive, Escape, Closing, Foreign, End}
+use denote.Enum.Bare.{sameb}
+use Rattle.lexis.specs.contracts.string.Why.{the_type}
 use Rattle.lexis.proofs.Units.{Bytewise, Sound, unit_sound, encoded_by}
 use Rattle.lexis.proofs.Texts.{step, stop, bytewise_drop}
 
@@ -87,6 +90,16 @@ strings_end : (y z : Why) → same_as (plain_as y []) (plain_as z []) ≡ (is_qu
 unfolding alike
 strings_end y z = same_plain (is_quote y) (is_quote z) [] []
 
+-- what a derived `==` says of the quote
+pub quote_as : (y : Why) → sameb the_type y Quote ≡ is_quote y
+quote_as Quote = refl
+quote_as Interpolation = refl
+quote_as Directive = refl
+quote_as Escape = refl
+quote_as Closing = refl
+quote_as Foreign = refl
+quote_as End = refl
+
 -- in quoted text a unit is one wherever lines start
 unit_in_lem : (f : Bool) (l : List ℕ) → unit_in quoted f l ≡ unit true l
 unfolding unit
@@ -154,47 +167,49 @@ pub left_start : (s : List ℕ) (a b : ℕ) → Left s a b a 0 0 b 0 0
 left_start s a b = record { xs = []; ys = []; here = packed_none; there = packed_none; same = refl }
 
 -- a unit that stands at i
-pub record Taken (s : List ℕ) (i : ℕ) (x : Piece) : Type 0 where
+pub record Taken (s : List ℕ) (i : ℕ) (x : Made) : Type 0 where
   pub bytes : List ℕ
   pub packs : Packs bytes x.bytes x.count
   pub some : 1 ≤ length bytes
   pub goes : string_from [] s i ≡ string_from bytes s (i + x.width)
 
-taken_as : (s : List ℕ) (i : ℕ) → Bytewise s → (v : Unit) → unit true (drop i s) ≡ v → Sound (drop i s) v → Filled v → (x : Piece) → x ≡ piece_of v
-    → (x.width ≡ 0 → ⊥) → Taken s i x
-taken_as s i l (not y) h k f x a n = absurd (n (ap (λ (p : Piece). p.width) a))
+taken_as : (s : List ℕ) (i : ℕ) → Bytewise s → (v : Unit) → unit true (drop i s) ≡ v → Sound (drop i s) v → Filled v → (x : Made) → piece_from (Ok x) ≡ piece_of v
+    → 1 ≤ x.width → Taken s i x
+taken_as s i l (not y) h k f x a n = absurd (omega (arith, n, ap (λ (p : Piece). p.width) a))
 taken_as s i l (is w bs e) h k f x a n =
     let t = step quoted s i w bs e (unit_in_lem (fresh_at s i) (drop i s) ∙ h) k in
-    rw a
-    (record {
+    let d : x.width ≡ w = ap (λ (p : Piece). p.width) a in
+    record {
       bytes = bs;
-      packs = record { is = refl; long = refl; low = k.low (bytewise_drop s i l) };
+      packs = record { is = ap (λ (p : Piece). p.bytes) a; long = ap (λ (p : Piece). p.count) a; low = k.low (bytewise_drop s i l) };
       some = f;
-      goes = ap (λ (p : Text). plain_as p.why p.bytes) t;
-    })
+      goes = rw d (ap (λ (p : Text). plain_as p.why p.bytes) t);
+    }
 
-stops_as : (s : List ℕ) (i : ℕ) (v : Unit) → unit true (drop i s) ≡ v → Sound (drop i s) v → (x : Piece) → x ≡ piece_of v → x.width ≡ 0
-    → string_from [] s i ≡ plain_as x.why []
-stops_as s i (is w bs e) h k x a n = absurd (omega (arith, k.wide, ap (λ (p : Piece). p.width) a))
-stops_as s i (not y) h k x a n = rw a (ap (λ (p : Text). plain_as p.why p.bytes) (stop quoted s i y (unit_in_lem (fresh_at s i) (drop i s) ∙ h)))
+stops_as : (s : List ℕ) (i : ℕ) (v : Unit) → unit true (drop i s) ≡ v → Sound (drop i s) v → (y : Why) → piece_from (Err y) ≡ piece_of v
+    → string_from [] s i ≡ plain_as y []
+stops_as s i (is w bs e) h k y a = absurd (omega (arith, k.wide, ap (λ (p : Piece). p.width) a))
+stops_as s i (not z) h k y a =
+    let d : y ≡ z = ap (λ (p : Piece). p.why) a in
+    rw d (ap (λ (p : Text). plain_as p.why p.bytes) (stop quoted s i z (unit_in_lem (fresh_at s i) (drop i s) ∙ h)))
 
-module _ {s : List ℕ} {i : ℕ} {x : Piece} (h : UnitHere s (unit true (drop i s)) i x) where
-  pub taken : Bytewise s → (x.width ≡ 0 → ⊥) → Taken s i x
-  taken l n = taken_as s i l (unit true (drop i s)) refl (unit_sound true (drop i s)) (filled true (drop i s)) x h.is n
+module _ {s : List ℕ} {i : ℕ} where
+  pub taken : {x : Made} → UnitAt s (unit true (drop i s)) i (Ok x) → Bytewise s → Taken s i x
+  taken {x} h l = taken_as s i l (unit true (drop i s)) refl (unit_sound true (drop i s)) (filled true (drop i s)) x h.here.is h.wide
 
-  pub stops : x.width ≡ 0 → string_from [] s i ≡ plain_as x.why []
-  stops n = stops_as s i (unit true (drop i s)) refl (unit_sound true (drop i s)) x h.is n
+  pub stops : {y : Why} → UnitAt s (unit true (drop i s)) i (Err y) → string_from [] s i ≡ plain_as y []
+  stops {y} h = stops_as s i (unit true (drop i s)) refl (unit_sound true (drop i s)) y h.here.is
 
   -- a string with no text, beside the one at i
-  pub closes_not : Bytewise s → (x.width ≡ 0 → ⊥) → same_as (plain []) (string_at s i) ≡ false
-  closes_not l n = let t = taken l n in rw t.goes (beside t.bytes t.some)
+  pub closes_not : {x : Made} → UnitAt s (unit true (drop i s)) i (Ok x) → Bytewise s → same_as (plain []) (string_at s i) ≡ false
+  closes_not {x} h l = let t = taken h l in rw t.goes (beside t.bytes t.some)
     where
       beside : (bs : List ℕ) → 1 ≤ length bs → same_as (plain []) (string_from bs s (i + x.width)) ≡ false
       beside [] k = absurd (omega arith)
       beside (b ∷ bs) k = strings_less Quote (text_at quoted s (i + x.width)).why b (bs ++ (text_at quoted s (i + x.width)).bytes)
 
-  pub closes_by : x.width ≡ 0 → same_as (plain []) (string_at s i) ≡ is_quote x.why
-  closes_by n = rw (stops n) (strings_end Quote x.why ∙ and-true (is_quote x.why))
+  pub closes_by : {y : Why} → UnitAt s (unit true (drop i s)) i (Err y) → same_as (plain []) (string_at s i) ≡ is_quote y
+  closes_by {y} h = rw (stops h) (strings_end Quote y ∙ and-true (is_quote y))
 
 module _ {s : List ℕ} {a b i u n j v m : ℕ} (g : Left s a b i u n j v m) where
   -- nothing is left of the last unit
@@ -205,38 +220,38 @@ module _ {s : List ℕ} {a b i u n j v m : ℕ} (g : Left s a b i u n j v m) whe
   none_there e = rw (← packs_none g.ys g.there e) g.same
 
   -- a unit more
-  pub take_here : {x : Piece} → Bytewise s → n ≡ 0 → UnitHere s (unit true (drop i s)) i x → (x.width ≡ 0 → ⊥) → Left s a b (i + x.width) x.bytes x.count j v m
-  take_here l e h k =
-      let t = taken h l k in
+  pub take_here : {x : Made} → Bytewise s → n ≡ 0 → UnitAt s (unit true (drop i s)) i (Ok x) → Left s a b (i + x.width) x.bytes x.count j v m
+  take_here l e h =
+      let t = taken h l in
       record { xs = t.bytes; ys = g.ys; here = t.packs; there = g.there; same = rw (← t.goes) (none_here e) }
 
-  pub take_there : {x : Piece} → Bytewise s → m ≡ 0 → UnitHere s (unit true (drop j s)) j x → (x.width ≡ 0 → ⊥) → Left s a b i u n (j + x.width) x.bytes x.count
-  take_there l e h k =
-      let t = taken h l k in
+  pub take_there : {x : Made} → Bytewise s → m ≡ 0 → UnitAt s (unit true (drop j s)) j (Ok x) → Left s a b i u n (j + x.width) x.bytes x.count
+  take_there l e h =
+      let t = taken h l in
       record { xs = g.xs; ys = t.bytes; here = g.here; there = t.packs; same = rw (← t.goes) (none_there e) }
 
   -- the first text ends
-  module _ {x : Piece} (e : n ≡ 0) (h : UnitHere s (unit true (drop i s)) i x) (k : x.width ≡ 0) where
-    ends_here : same_as (plain_as x.why []) (string_from g.ys s j) ≡ same_as (string_at s a) (string_at s b)
-    ends_here = rw (← stops h k) (none_here e)
+  module _ {y : Why} (e : n ≡ 0) (h : UnitAt s (unit true (drop i s)) i (Err y)) where
+    ends_here : same_as (plain_as y []) (string_from g.ys s j) ≡ same_as (string_at s a) (string_at s b)
+    ends_here = rw (← stops h) (none_here e)
 
     pub ends_before : (m ≡ 0 → ⊥) → same_as (string_at s a) (string_at s b) ≡ false
     ends_before o =
         let f = packs_some g.ys g.there o in
-        sym ends_here ∙ rw f.first (strings_less x.why (text_at quoted s j).why (v % 256) (f.rest ++ (text_at quoted s j).bytes))
+        sym ends_here ∙ rw f.first (strings_less y (text_at quoted s j).why (v % 256) (f.rest ++ (text_at quoted s j).bytes))
 
-    pub ends_open : is_quote x.why ≡ false → same_as (string_at s a) (string_at s b) ≡ false
+    pub ends_open : is_quote y ≡ false → same_as (string_at s a) (string_at s b) ≡ false
     ends_open o = sym ends_here ∙ rw o
 
-    pub ends_closed : m ≡ 0 → is_quote x.why ≡ true → same_as (string_at s a) (string_at s b) ≡ same_as (plain []) (string_at s j)
+    pub ends_closed : m ≡ 0 → is_quote y ≡ true → same_as (string_at s a) (string_at s b) ≡ same_as (plain []) (string_at s j)
     ends_closed z o = sym ends_here ∙ rw (packs_none g.ys g.there z, o)
 
   -- the first text goes on
   module _ (e : n ≡ 0 → ⊥) where
-    pub ends_after : {x : Piece} → m ≡ 0 → UnitHere s (unit true (drop j s)) j x → x.width ≡ 0 → same_as (string_at s a) (string_at s b) ≡ false
-    ends_after {x} z h k =
+    pub ends_after : {y : Why} → m ≡ 0 → UnitAt s (unit true (drop j s)) j (Err y) → same_as (string_at s a) (string_at s b) ≡ false
+    ends_after {y} z h =
         let f = packs_some g.xs g.here e in
-        sym (none_there z) ∙ rw (f.first, stops h k) (strings_over (text_at quoted s i).why x.why (u % 256) (f.rest ++ (text_at quoted s i).bytes))
+        sym (none_there z) ∙ rw (f.first, stops h) (strings_over (text_at quoted s i).why y (u % 256) (f.rest ++ (text_at quoted s i).bytes))
 
     module _ (o : m ≡ 0 → ⊥) where
       pub bytes_differ : (u % 256 ≡ v % 256 → ⊥) → same_as (string_at s a) (string_at s b) ≡ false

@@ -42,9 +42,6 @@ module _ {s : List ℕ} {i j x y : ℕ} (h : Byte s i x) (k : Byte s j y) where
         go true f = rw (rest_on s i (rw h.is at e), rest_on s j (rw k.is at f), ne_eqb (byte_at s i) (byte_at s j) (λ z. n (h.is ∙ z ∙ sym k.is)))
         go false f = rw (rest_on s i (rw h.is at e), rest_off s j (rw k.is at f))
 
-    pub rests_inside : x ≡ y → (i < length s) × (j < length s)
-    rests_inside f = (inside is_rest s i refl (rw h.is at e), inside is_rest s j refl (ap is_rest (sym k.is ∙ sym f) ∙ e))
-
     pub rests_more : x ≡ y → alike (rest_of (drop (i + 1) s)) (rest_of (drop (j + 1) s)) ≡ alike (rest_of (drop i s)) (rest_of (drop j s))
     unfolding alike
     rests_more f =
@@ -107,10 +104,6 @@ module _ {s : List ℕ} {a b x y : ℕ} (h : Byte s a x) (k : Byte s b y) where
     pub keys_word : is_start x ≡ true → same_key s a b ≡ alike (rest_of (drop (a + 1) s)) (rest_of (drop (b + 1) s))
     unfolding alike
     keys_word f = rw (key_word h f, key_word k (ap is_start (sym e) ∙ f), eq-eqb x y e)
-
--- a byte that a key starts with stands within the source
-pub key_inside : {s : List ℕ} {p x : ℕ} → Byte s p x → is_start x ≡ true → p < length s
-key_inside {s} {p} h e = inside is_start s p refl (rw h.is at e)
 
 -- the search over earlier keys: those from the k-th on are left
 module _ (s starts : List ℕ) (from to p k : ℕ) (inv : among s (part starts k to) p ≡ met_before s starts from to p) where

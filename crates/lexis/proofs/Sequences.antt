@@ -10,9 +10,19 @@ use lib.ListN.{length, take, drop, replicate, length-drop, drop_of_length-le}
 use lib.Dec.{leb, eqb-suc-zero}
 use lib.Seq.{drop-cons, drop-nil, drop-drop}
 use borrow.Author.Tests.{le-leb, lt-leb}
-use Rattle.lexis.specs.Bytes.{byte_at, is_within}
+use Rattle.std.specs.Prelude.{Option, Some, None, is_none, unwrap_or}
+use Rattle.lexis.specs.Bytes.{byte_at, is_within, nonzero}
 use Rattle.lexis.specs.RunLaws.{and_left, and_right}
-use Rattle.lexis.specs.Utf8.{Range, ◌to◌, within, Row, tail, table, fits, width_by, sequence, behind_of, good_after, first_bad, Wide}
+use Rattle.lexis.specs.Utf8.{Range, ◌to◌, within, Row, tail, table, fits, width_by, sequence, behind_of, good_after, first_bad}
+
+-- none is 0, and some is the number
+pub nonzero_none : {c : ℕ} → nonzero c ≡ None → c ≡ 0
+nonzero_none {c = zero} e = refl
+nonzero_none {c = suc c} e = absurd (false≢true (ap is_none e))
+
+pub nonzero_some : {c d : ℕ} → nonzero c ≡ Some d → (d ≡ c) × (d ≡ 0 → ⊥)
+nonzero_some {c = zero} e = absurd (false≢true (sym (ap is_none e)))
+nonzero_some {c = suc c} {d} e = let z : suc c ≡ d = ap (λ (o : Option ℕ). unwrap_or o 0) e in (sym z, λ v. omega arith)
 
 -- a byte outside a range
 pub under : (l h b : ℕ) → b < l → within (l to h) b ≡ false
@@ -185,6 +195,11 @@ sequence_long (b ∷ l) = width_long table b l
 
 pub sequence_high : (s : List ℕ) (p : ℕ) → sequence (drop p s) ≤ length s - p
 sequence_high s p = rw (← length-drop p s) (sequence_long (drop p s))
+
+-- r is the width of the sequence at p, which is within the source
+pub record Wide (s : List ℕ) (p r : ℕ) : Type 0 where
+  pub is : r ≡ sequence (drop p s)
+  pub high : r ≤ length s - p
 
 -- the width at a place, by the row of its first byte
 pub wide_by : (s : List ℕ) (p b w : ℕ) → b ≡ byte_at s p → p < length s → width_by table b (drop (p + 1) s) ≡ w → Wide s p w

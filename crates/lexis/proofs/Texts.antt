@@ -2,10 +2,8 @@
 use Prim.Native.Nat.{ℕ, zero, suc, ◌+◌, ◌-◌, ◌≤◌, ◌<◌}
 use mathlib.Core.Path.{◌≡◌, refl, sym, ap, subst, ◌∙◌}
 use mathlib.Core.List.{List, [], ◌∷◌, ◌++◌}
-use mathlib.Core.Bool.{Bool, true, false, cond, ◌&&◌, ◌||◌, and-true}
-use mathlib.Core.Bool as bool
+use mathlib.Core.Bool.{Bool, true, false, cond, ◌&&◌, ◌||◌}
 use native.Mathlib.Nat.{zero-add}
-use native.Mathlib.Decide.{dec_lt}
 use native.Mathlib.Omega.{arith}
 use lib.ListN.{length, take, drop, length-drop, length-append}
 use lib.Dec.{ltb, eqb}
@@ -13,13 +11,14 @@ use lib.Seq.{get_or-drop, drop-drop, drop-cons, take-add}
 use borrow.Author.Tests.{ne_eqb, lt-ltb, le-ltb, eqb-true, ltb-true, ltb-false}
 use Rattle.lexis.specs.Bytes.{byte_at, run_to, Byte, Ran}
 use Rattle.lexis.specs.Heredoc.{closing, fresh_at, part, line_as, line_at}
-use Rattle.lexis.specs.String.{Mode, quoted, heredoc, Unit, is, not, plain, marker, unit, line_or, unit_in, plain_in, Text, ended, added, unit_else, text_after, text_at, mode_of, packed, piece_of, run_of, RunHere, UnitHere}
+use Rattle.lexis.specs.String.{Mode, quoted, heredoc, Unit, is, not, plain, marker, unit, line_or, unit_in, plain_in, Text, ended, added, unit_else, text_after, text_at, mode_of, packed, Piece, piece_of, piece_from, run_of, RunHere, UnitAt}
 use Rattle.lexis.specs.declared.heredoc.Line.{Line}
 use Rattle.lexis.specs.declared.heredoc.Line.TheVariants as line
 use Rattle.lexis.specs.declared.string.Why.{Why}
 use Rattle.lexis.specs.declared.string.Why.TheVariants.{Quote, Interpolation, Directive, Closing, Foreign, End}
-use Rattle.lexis.specs.declared.string.Piece.{Piece}
 use Rattle.lexis.specs.declared.string.Run.{Run}
+use Rattle.lexis.specs.declared.string.Unit.{Unit as Made}
+use Rattle.std.specs.Prelude.{Ok, Err}
 use Rattle.lexis.specs.RunLaws.{next, empty, clash, and_right, inside, run_on, run_stop}
 use Rattle.lexis.proofs.Lines.{fresh_behind}
 use Rattle.lexis.proofs.Spelling.{pack_one, pack_two}
@@ -231,10 +230,6 @@ pub record Going (m : Mode) (s : List ℕ) (p i n : ℕ) (f : Bool) : Type 0 whe
   pub counts : length (text_at m s p).bytes ≡ n + length (text_at m s i).bytes
   pub whys : (text_at m s p).why ≡ (text_at m s i).why
 
-pub going_start : (m : Mode) (s : List ℕ) (p : ℕ) (f : Bool) → f ≡ fresh_at s p → Going m s p p 0 f
-going_start m s p f e =
-    record { low = omega arith; high = omega arith; short = omega arith; fits = λ l. ap (λ (x : Bool). unit_in m x l) e; ends = refl; counts = omega arith; whys = refl }
-
 run_is : (t : Text) (p i n : ℕ) (y : Why) (b : Bool) → i ≡ p + t.width → n ≡ length t.bytes → y ≡ t.why → b ≡ t.escaped
     → ◌≡◌ {A = Run} (record { end = i; length = n; why = y; escaped = b }) (run_of p t)
 run_is t p i n y b f g h k = rw (f, g, h, k)
@@ -254,8 +249,8 @@ module _ {m : Mode} {s : List ℕ} {p i n : ℕ} {f : Bool} (g : Going m s p i n
       let q : ltb n (i - p) ≡ (text_at m s p).escaped = ap (λ (k : ℕ). ltb k (i - p)) l ∙ ap (λ (k : ℕ). ltb (length (text_at m s p).bytes) k) v ∙ sym (facts m s p).marked in
       record { is = run_is (text_at m s p) p i n u.why (ltb n (i - p)) x l o q; low = g.low; high = g.high; short = g.short }
 
-  pub going_stop : {u : Piece} → UnitHere s (unit_in m f (drop i s)) i u → u.width ≡ 0 → RunHere m s p (record { end = i; length = n; why = u.why; escaped = ltb n (i - p) })
-  going_stop {u} h e = stop_by (unit_in m f (drop i s)) refl (in_sound m f (drop i s)) u h.is e
+  pub going_stop : {y : Why} → UnitAt s (unit_in m f (drop i s)) i (Err y) → RunHere m s p (record { end = i; length = n; why = y; escaped = ltb n (i - p) })
+  going_stop {y} h = stop_by (unit_in m f (drop i s)) refl (in_sound m f (drop i s)) (piece_from (Err y)) h.here.is refl
 
   more_by : (v : Unit) → unit_in m f (drop i s) ≡ v → Sound (drop i s) v → (u : Piece) → u ≡ piece_of v → (u.width ≡ 0 → ⊥)
       → Going m s p (i + u.width) (n + u.count) (eqb u.bytes 10)
@@ -275,47 +270,12 @@ module _ {m : Mode} {s : List ℕ} {p i n : ℕ} {f : Bool} (g : Going m s p i n
         whys = g.whys ∙ ap (λ (x : Text). x.why) t;
       })
 
-  pub going_more : {u : Piece} → UnitHere s (unit_in m f (drop i s)) i u → (u.width ≡ 0 → ⊥) → Going m s p (i + u.width) (n + u.count) (eqb u.bytes 10)
-  going_more {u} h e = more_by (unit_in m f (drop i s)) refl (in_sound m f (drop i s)) u h.is e
+  pub going_more : {u : Made} → UnitAt s (unit_in m f (drop i s)) i (Ok u) → Going m s p (i + u.width) (n + u.count) (eqb u.bytes 10)
+  going_more {u} h = more_by (unit_in m f (drop i s)) refl (in_sound m f (drop i s)) (piece_from (Ok u)) h.here.is (λ z. omega (arith, h.wide, z))
 
 -- a byte that is text as it stands
 plain_no : (q : Bool) (b : ℕ) → plain_in q b ≡ true → (n : ℕ) → plain_in q n ≡ false → b ≡ n → ⊥
 plain_no q b k n e z = clash (sym k ∙ ap (plain_in q) z ∙ e)
-
--- what the code says of a byte
-plain_none : (q : Bool) {b : ℕ} (n : ℕ) → plain_in q n ≡ false → b ≡ n → false ≡ plain_in q b
-plain_none q n e z = sym (ap (plain_in q) z ∙ e)
-
-pub plain_marks : (q : Bool) {b : ℕ} → 35 < b → b ≤ 37 → false ≡ plain_in q b
-plain_marks q {b} h l = go (dec_lt b 37)
-  where
-    go : Dec (b < 37) → false ≡ plain_in q b
-    go (yes k) = plain_none q {b = b} 36 refl (omega arith)
-    go (no k) = plain_none q {b = b} 37 refl (omega arith)
-
-not_cond : (x : Bool) → cond x false true ≡ bool.not x
-not_cond true = refl
-not_cond false = refl
-
-pub plain_over : (q : Bool) {b : ℕ} → 92 < b → bool.not (eqb b 256) ≡ plain_in q b
-plain_over true {b} h =
-    sym
-    (rw (ne_eqb b 36 (λ z. omega arith), ne_eqb b 37 (λ z. omega arith), ne_eqb b 34 (λ z. omega arith), ne_eqb b 92 (λ z. omega arith)) (not_cond (eqb b 256)))
-plain_over false {b} h =
-    sym (rw (ne_eqb b 36 (λ z. omega arith), ne_eqb b 37 (λ z. omega arith), ne_eqb b 10 (λ z. omega arith)) (not_cond (eqb b 256)))
-
-module _ (q : Bool) {b : ℕ} (m : b ≡ 36 → ⊥) (n : b ≡ 37 → ⊥) (o : b ≡ 256 → ⊥) where
-  pub plain_line : q ≡ false → bool.not (eqb b 10) ≡ plain_in q b
-  plain_line e = sym (rw (ne_eqb b 36 m, ne_eqb b 37 n, ne_eqb b 256 o, e))
-
-  pub plain_heredoc : q ≡ false → (b ≡ 10 → ⊥) → true ≡ plain_in q b
-  plain_heredoc e h = sym (rw (ne_eqb b 36 m, ne_eqb b 37 n, ne_eqb b 256 o, ne_eqb b 10 h, e))
-
-  pub plain_high : q ≡ true → (b ≡ 34 → ⊥) → bool.not (eqb b 92) ≡ plain_in q b
-  plain_high e h = sym (rw (ne_eqb b 36 m, ne_eqb b 37 n, ne_eqb b 256 o, ne_eqb b 34 h, e))
-
-  pub plain_low : q ≡ true → (b ≡ 92 → ⊥) → bool.not (eqb b 34) ≡ plain_in q b
-  plain_low e h = sym (rw (ne_eqb b 36 m, ne_eqb b 37 n, ne_eqb b 256 o, ne_eqb b 92 h, e) (and-true (bool.not (eqb b 34))))
 
 -- bytes that are text as they stand, in quoted text or where no line starts: each is a unit, and no line starts behind it
 module _ (s : List ℕ) (p d e : ℕ) (q f : Bool) (o : q ≡ false → f ≡ false) where

@@ -10,10 +10,11 @@ use lib.ListN.{length, get_or, drop}
 use lib.Dec.{eqb, ltb}
 use lib.Seq.{drop-drop}
 use borrow.Author.Tests.{ne_eqb, lt-ltb, eqb-true}
-use Rattle.lexis.specs.declared.trivia.Gap.{Gap}
-use Rattle.lexis.specs.declared.trivia.Stop.{Stop}
+use Rattle.std.specs.Prelude.{Result, Ok, Err}
+use Rattle.std.specs.Result.{IsErrAnd}
+use Rattle.lexis.specs.declared.trivia.Unclosed.{Unclosed}
 use Rattle.lexis.specs.Bytes.{byte_at, is_space, begins, stands, up_to}
-use Rattle.lexis.specs.Trivia.{ending, ends_line, opens_comment, comment, Item, none, wide, endless, block_as, closes, block, line_item, item, ends_at, open_at, placed, gap, gap_to, Ending, Gapped, stop_at, stop_comment, line_comment, stop_to}
+use Rattle.lexis.specs.Trivia.{ending, ends_line, opens_comment, comment, Item, none, wide, endless, block_as, closes, block, line_item, item, Gap, ends_at, open_at, gap_of, placed, gap, gap_to, Ending, Gapped, Stopping, stop_at, stop_comment, line_comment, stop_to}
 use Rattle.lexis.specs.RunLaws.{default, clash, and_right, stands_cons, stands_one, stands_two, stands_inside, here, reach, reach_on, reach_stop, front, next, empty, left}
 use Rattle.lexis.specs.TriviaLaws.{item_nil, comment_end, gap_low, gap_high, gap_inside}
 
@@ -93,7 +94,7 @@ module _ (s : List ℕ) (p : ℕ) where
   unfolding begins
   comment_cut {i} h e = sym (comment_at s p e ∙ rw (empty s i))
 
-  comment_ends : {e : Stop} → e ≡ line_comment p (drop p s) → e.at ≡ p + width (drop p s)
+  comment_ends : {e : Stopping} → e ≡ line_comment p (drop p s) → e.at ≡ p + width (drop p s)
   comment_ends h = rw h (comment_end p (drop p s) ∙ omega arith)
 
   -- the code's width of a line ending, as a test
@@ -176,11 +177,11 @@ module _ (s : List ℕ) (p : ℕ) where
       hash_comment : byte_at s p ≡ 35 → item lines (drop p s) ≡ wide (width (drop p s))
       hash_comment e = item_is ∙ rw (line_is, ending_is s p, e, l)
 
-      pub item_comment : {e : Stop} → e ≡ line_comment p (drop p s) → byte_at s p ≡ 47 → byte_at s (p + 1) ≡ 47
+      pub item_comment : {e : Stopping} → e ≡ line_comment p (drop p s) → byte_at s p ≡ 47 → byte_at s (p + 1) ≡ 47
           → ends_at e.at ≡ placed p (item lines (drop p s))
       item_comment h f g = rw (slashes_comment f g, comment_ends h)
 
-      pub item_hash : {e : Stop} → e ≡ line_comment p (drop p s) → byte_at s p ≡ 35 → ends_at e.at ≡ placed p (item lines (drop p s))
+      pub item_hash : {e : Stopping} → e ≡ line_comment p (drop p s) → byte_at s p ≡ 35 → ends_at e.at ≡ placed p (item lines (drop p s))
       item_hash h f = rw (hash_comment f, comment_ends h)
 
       pub item_ending : {w : ℕ} → is_space (byte_at s p) ≡ false → (byte_at s p ≡ 47 → ⊥) → (byte_at s p ≡ 35 → ⊥) → w ≡ ending (drop p s)
@@ -261,6 +262,12 @@ on_as lines i (y ∷ ys) (wide (suc k)) e n h =
     let g : i + suc k - i ≡ suc k = omega arith in
     rw (e, g) (ap (λ (q : ℕ). gap lines q 0 (drop k ys)) (omega arith) ∙ sym (gap_pass lines (suc i) k ys (omega arith)))
 
+-- a block comment that nothing closes is an item where it starts
+opened : (i : ℕ) (x : Item) {a : ℕ} → open_at a ≡ placed i x → a ≡ i
+opened i none e = clash (ap (λ (g : Gap). g.unclosed) e)
+opened i (wide n) e = clash (ap (λ (g : Gap). g.unclosed) e)
+opened i endless e = ap (λ (g : Gap). g.at) e
+
 module _ (lines : Bool) (s : List ℕ) (i : ℕ) {g : Gap} (is : g ≡ placed i (item lines (drop i s))) where
   pub gap_stop : g.at ≡ i → g ≡ gap_to lines s i
   gap_stop h = is ∙ sym (stop_as lines i (drop i s) (item lines (drop i s)) refl (sym (ap (λ (x : Gap). x.at) is) ∙ h))
@@ -271,6 +278,12 @@ module _ (lines : Bool) (s : List ℕ) (i : ℕ) {g : Gap} (is : g ≡ placed i 
       let back : i + (g.at - i) ≡ g.at = omega arith in
       rw (at, drop-drop (g.at - i) i s, back) at
       (on_as lines i (drop i s) (item lines (drop i s)) refl (λ f. n (sym at ∙ f)) (omega (arith, left s i, at)))
+
+-- what a `?` hands on
+pub gap_open : (lines : Bool) (s : List ℕ) (i : ℕ) (r : Result ℕ Unclosed) (e : Unclosed) → IsErrAnd r (λ y. y ≡ e)
+    → open_at e.at ≡ placed i (item lines (drop i s)) → gap_of r ≡ gap_to lines s i
+gap_open lines s i (Ok q) e h is = absurd h
+gap_open lines s i (Err y) e h is = ap gap_of (ap Err h) ∙ gap_stop lines s i is (opened i (item lines (drop i s)) is)
 
 -- past a space, and where a byte starts no trivia
 module _ (lines : Bool) (s : List ℕ) (i : ℕ) where

@@ -9,25 +9,17 @@ use lib.ListN.{length, get_or, take, drop, length-drop}
 use lib.Dec.{leb, ltb, eqb}
 use lib.Seq.{drop-drop, get_or-drop}
 use borrow.Author.Tests.{eq-eqb, ne_eqb, lt-ltb, eqb-true, ltb-true, ltb-false, leb-true}
+use Rattle.std.specs.Prelude.{Result}
 use Rattle.lexis.specs.Bytes.{byte_at, is_hex}
 use Rattle.lexis.specs.Utf8.{is_scalar, six, encoded}
-use Rattle.lexis.specs.String.{Unit, is, not, plain, short, hex_of, hexes, scalar_as, scalar, escape, marker, unit, piece_of, UnitHere}
+use Rattle.lexis.specs.String.{Unit, is, not, plain, short, hex_of, hexes, scalar_as, scalar, escape, marker, unit, answer_of, UnitAt}
 use Rattle.lexis.specs.declared.string.Why.{Why}
 use Rattle.lexis.specs.declared.string.Why.TheVariants.{Quote, Interpolation, Directive, Escape, End}
-use Rattle.lexis.specs.declared.string.Piece.{Piece}
+use Rattle.lexis.specs.declared.string.Unit.{Unit as Made}
 use Rattle.lexis.specs.RunLaws.{next, empty, front, here, default, clash, and_right}
 
 -- a marker by the bytes behind it
 module _ (y : Why) (b c d : ℕ) where
-  pub marker_ends : b < 123 → c ≡ 123 → marker y b c d ≡ not y
-  marker_ends h e = rw (e, ne_eqb 123 b (λ z. omega arith))
-
-  pub marker_other : (c ≡ 123 → ⊥) → (c ≡ b → ⊥) → marker y b c d ≡ plain b
-  marker_other h k = rw (ne_eqb c b k, ne_eqb c 123 h)
-
-  pub marker_alone : (c ≡ 123 → ⊥) → c ≡ b → (d ≡ 123 → ⊥) → marker y b c d ≡ plain b
-  marker_alone h k l = rw (eq-eqb c b k, ne_eqb d 123 l, ne_eqb c 123 h)
-
   pub marker_escaped : c ≡ b → d ≡ 123 → marker y b c d ≡ is 3 (b ∷ 123 ∷ []) true
   marker_escaped k l = rw (eq-eqb c b k, eq-eqb d 123 l)
 
@@ -236,15 +228,13 @@ unit_sound q (b ∷ l) = go (eqb b 36) (eqb b 37) (q && eqb b 34) (q && eqb b 92
     go false false false false = plain_sound b l
 
 -- what the code says of a unit
-pub unit_here : (s : List ℕ) (u : Unit) (p : ℕ) (r : Piece) → Sound (drop p s) u → r ≡ piece_of u → UnitHere s u p r
+pub unit_here : (s : List ℕ) (u : Unit) (p : ℕ) (r : Result Made Why) → Sound (drop p s) u → r ≡ answer_of u → UnitAt s u p r
 unit_here s (is w bs e) p r h f =
-    let a : r.width ≡ w = ap (λ (x : Piece). x.width) f in
-    let b : r.count ≡ length bs = ap (λ (x : Piece). x.count) f in
-    record { is = f; high = omega (arith, h.high, length-drop p s); few = omega (arith, h.few); small = omega (arith, h.small) }
-unit_here s (not y) p r h f =
-    let a : r.width ≡ 0 = ap (λ (x : Piece). x.width) f in
-    let b : r.count ≡ 0 = ap (λ (x : Piece). x.count) f in
-    record { is = f; high = omega arith; few = omega arith; small = omega arith }
+    rw f (record { here = record { is = refl; high = omega (arith, h.high, length-drop p s); few = h.few; small = h.small }; wide = h.wide })
+unit_here s (not y) p r h f = rw f (record { here = record { is = refl; high = omega arith; few = omega arith; small = omega arith }; wide = tt })
 
-pub same_here : {s : List ℕ} {u v : Unit} {p : ℕ} {r : Piece} → v ≡ u → UnitHere s u p r → UnitHere s v p r
+pub unit_there : (q : Bool) (s : List ℕ) (p : ℕ) (r : Result Made Why) → r ≡ answer_of (unit q (drop p s)) → UnitAt s (unit q (drop p s)) p r
+unit_there q s p r = unit_here s (unit q (drop p s)) p r (unit_sound q (drop p s))
+
+pub same_here : {s : List ℕ} {u v : Unit} {p : ℕ} {r : Result Made Why} → v ≡ u → UnitAt s u p r → UnitAt s v p r
 same_here e h = rw e h

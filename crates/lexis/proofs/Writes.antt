@@ -10,10 +10,13 @@ use lib.ListN.{length, get_or, take, drop, set, length-set, length-append, lengt
 use lib.Seq.{paste, paste-zero, paste-suc, take-paste, drop-paste, drop-drop, get_or-drop, take-add, take-length, take-append_seam, drop-append_seam}
 use borrow.Author.Tests.{le-leb, lt-leb}
 use Rattle.lexis.specs.Heredoc.{fresh_at, part}
-use Rattle.lexis.specs.String.{Mode, mode_of, Unit, is, not, unit, unit_in, Text, text_at, packed, unpacked, piece_of, UnitHere, RunHere, fits_at, Wrote}
+use Rattle.lexis.specs.String.{Mode, mode_of, Unit, is, not, unit, unit_in, Text, text_at, packed, unpacked, Piece, piece_of, piece_from, UnitAt, RunHere, fits_at, Wrote}
 use Rattle.lexis.specs.declared.string.Why.TheVariants.{End}
-use Rattle.lexis.specs.declared.string.Piece.{Piece}
+use Rattle.lexis.specs.declared.string.Why.{Why}
 use Rattle.lexis.specs.declared.string.Run.{Run}
+use Rattle.lexis.specs.declared.string.Unit.{Unit as Made}
+use Rattle.std.proofs.Common.{rules}
+use Rattle.std.specs.Prelude.{Result, Ok, Err, IsOk}
 use Rattle.lexis.proofs.Units.{Bytewise, Fine, Sound}
 use Rattle.lexis.proofs.Texts.{after, step, stop, in_sound, facts, of_heredoc, not_is, bytewise_drop}
 
@@ -38,11 +41,6 @@ pub record Putting (b₀ : List ℕ) (at bytes count : ℕ) (b : List ℕ) (left
   pub laid : b ≡ paste b₀ at (unpacked count bytes) k
   pub long : length b ≡ length b₀
 
-pub put_start : (b₀ : List ℕ) (at bytes count : ℕ) → Putting b₀ at bytes count b₀ bytes 0
-put_start b₀ at bytes count =
-    let z : count - 0 ≡ count = omega arith in
-    record { few = omega arith; rest = rw z; laid = paste-zero b₀ at (unpacked count bytes); long = refl }
-
 module _ {b₀ : List ℕ} {at bytes count : ℕ} {b : List ℕ} {left k : ℕ} (g : Putting b₀ at bytes count b left k) where
   pub put_more : k < count → at + count ≤ length b₀ → Putting b₀ at bytes count (set b (at + k) (left % 256)) (left / 256) (k + 1)
   unfolding unpacked
@@ -60,9 +58,6 @@ module _ {b₀ : List ℕ} {at bytes count : ℕ} {b : List ℕ} {left k : ℕ} 
             ∙ ap (paste b₀ at (unpacked count bytes)) (sym (add-one k));
         long = length-set b (at + k) (left % 256) ∙ g.long;
       }
-
-  pub put_end : count ≤ k → b ≡ paste b₀ at (unpacked count bytes) count
-  put_end h = let z : k ≡ count = omega (arith, g.few) in g.laid ∙ ap (paste b₀ at (unpacked count bytes)) z
 
 -- a piece of a text, laid behind what is laid of it
 pub paste_on : (b T : List ℕ) (at j : ℕ) (bs r : List ℕ) → drop j T ≡ bs ++ r → at ≤ length b → j ≤ length T
@@ -109,7 +104,7 @@ ahead s q d e i h = go (unit_in (mode_of s q d e) (fresh_at s i) (drop i s)) ref
     go (is w bs x) f g = record { w = w; bs = bs; x = x; stands = of_mode s q d e (fresh_at s i) (drop i s) w bs x f; fine = g; text = step (mode_of s q d e) s i w bs x f g }
 
 -- what a turn needs to know of the unit, as plain numbers
-pub record Turn (s : List ℕ) (i j n : ℕ) (u : Piece) : Type 0 where
+pub record Turn (s : List ℕ) (i j n : ℕ) (u : Made) : Type 0 where
   pub wide : 0 < u.width
   pub high : i + u.width ≤ length s
   pub room : j + u.count ≤ n
@@ -118,10 +113,15 @@ pub ahead_of : (s : List ℕ) (q : Bool) (d e : ℕ) {p at : ℕ} {b₀ b : List
     → i < p + (text_at (mode_of s q d e) s p).width → Ahead q (mode_of s q d e) s i
 ahead_of s q d e {i} g h = ahead s q d e i (omega (arith, g.ends))
 
-module _ {q : Bool} {m : Mode} {s : List ℕ} {p at : ℕ} {b₀ b : List ℕ} {i j : ℕ} (a : Ahead q m s i) (g : Writing m s p at b₀ b i j) {u : Piece}
-    (k : UnitHere s (unit q (drop i s)) i u) where
-  unit_is : u ≡ piece_of (is a.w a.bs a.x)
-  unit_is = k.is ∙ ap piece_of a.stands
+-- where the run goes on, a unit stands
+pub ahead_ok : {q : Bool} {m : Mode} {s : List ℕ} {i : ℕ} → Ahead q m s i → (r : Result Made Why) → UnitAt s (unit q (drop i s)) i r → IsOk r
+ahead_ok a (Ok u) k = search rules
+ahead_ok a (Err y) k = absurd (omega (arith, a.fine.wide, ap (λ (v : Piece). v.width) (k.here.is ∙ ap piece_of a.stands)))
+
+module _ {q : Bool} {m : Mode} {s : List ℕ} {p at : ℕ} {b₀ b : List ℕ} {i j : ℕ} (a : Ahead q m s i) (g : Writing m s p at b₀ b i j) {r : Result Made Why} {u : Made}
+    (k : UnitAt s (unit q (drop i s)) i r) (o : r ≡ Ok u) where
+  unit_is : piece_from (Ok u) ≡ piece_of (is a.w a.bs a.x)
+  unit_is = ap piece_from (sym o) ∙ k.here.is ∙ ap piece_of a.stands
 
   wide_is : u.width ≡ a.w
   wide_is = ap (λ (v : Piece). v.width) unit_is

@@ -1,5 +1,5 @@
 -- The byte at a place of the source, and the classes of bytes (01, "Reading rules": space, identifier, number).
-use Rattle.std.specs.Prelude.{ℕ, suc, ◌+◌, ◌*◌, ◌-◌, ◌≤◌, ◌≡◌, List, [], ◌∷◌, Bool, true, false, cond, ◌&&◌, ◌||◌, length, get_or, drop, leb, eqb}
+use Rattle.std.specs.Prelude.{ℕ, zero, suc, ◌+◌, ◌*◌, ◌-◌, ◌≤◌, ◌≡◌, List, [], ◌∷◌, Bool, true, false, cond, ◌&&◌, ◌||◌, length, get_or, drop, leb, eqb, Option, Some, None}
 
 -- no byte: what stands past the end of the source
 abbrev pub nothing : ℕ
@@ -36,6 +36,11 @@ is_rest b = is_start b || is_digit b || eqb b 45
 -- the first byte of a scalar of 128 or more, in well-formed UTF-8
 abbrev pub is_foreign : ℕ → Bool
 is_foreign b = leb 128 b && leb b 255
+
+-- a number that is 0 for none
+abbrev pub nonzero : ℕ → Option ℕ
+nonzero zero = None
+nonzero (suc n) = Some (suc n)
 
 -- how many elements at the front of a list pass a test
 unfoldable pub run : (ℕ → Bool) → List ℕ → ℕ

@@ -1,11 +1,11 @@
 -- Heredocs (01, "Reading rules", and its open points): the opener, and the line that closes the text.
-use Rattle.std.specs.Prelude.{ℕ, zero, suc, ◌+◌, ◌-◌, ◌≤◌, ◌≡◌, List, Bool, true, false, cond, ◌&&◌, length, take, drop, eqb}
+use Rattle.std.specs.Prelude.{ℕ, zero, suc, ◌+◌, ◌-◌, ◌≤◌, ◌≡◌, List, Bool, true, false, cond, ◌&&◌, length, take, drop, eqb, Result, Ok, Err}
 use Rattle.lexis.specs.Bytes.{byte_at, is_space, is_start, is_rest, is_foreign, run, begins}
 use Rattle.lexis.specs.Trivia.{ending}
 use Rattle.lexis.specs.Word.{ident_to}
 use Rattle.lexis.specs.declared.heredoc.Line.{Line}
 use Rattle.lexis.specs.declared.heredoc.Line.TheVariants.{Text, Closes, Foreign}
-use Rattle.lexis.specs.declared.heredoc.Opener.{Opener}
+use Rattle.lexis.specs.declared.heredoc.Opener as declared
 
 -- the bytes of the source from a to e
 abbrev pub part : List ℕ → ℕ → ℕ → List ℕ
@@ -45,11 +45,24 @@ fresh_at s (suc p) = eqb (byte_at s p) 10
 abbrev pub line_end : List ℕ → ℕ → ℕ
 line_end s p = ending (drop p s)
 
+-- an opener: its flag, its delimiter from `from` to `to`, and at `at` the start of the text; or, not good, the place at which something else stands
+pub record Opener : Type 0 where
+  pub good : Bool
+  pub dash : Bool
+  pub from : ℕ
+  pub to : ℕ
+  pub at : ℕ
+
 abbrev pub fails : ℕ → Opener
 fails p = record { good = false; dash = false; from = 0; to = 0; at = p }
 
 abbrev pub opens : Bool → ℕ → ℕ → ℕ → Opener
 opens f d e t = record { good = true; dash = f; from = d; to = e; at = t }
+
+-- the same as the code has it
+abbrev pub opener_of : Result declared.Opener ℕ → Opener
+opener_of (Ok o) = opens o.dash o.from o.to o.at
+opener_of (Err p) = fails p
 
 -- after the delimiter from d to e, a line ending
 abbrev pub opener_end : List ℕ → Bool → ℕ → ℕ → Opener

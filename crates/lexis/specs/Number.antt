@@ -1,7 +1,7 @@
 -- Numbers, and the legacy index with its limit.
-use Rattle.std.specs.Prelude.{ℕ, ◌+◌, ◌*◌, ◌-◌, ◌≤◌, ◌≡◌, List, [], ◌∷◌, Bool, cond, ◌&&◌, ◌||◌, length, take, drop, eqb, ltb}
+use Rattle.std.specs.Prelude.{ℕ, ◌+◌, ◌*◌, ◌-◌, ◌≤◌, ◌≡◌, List, [], ◌∷◌, Bool, cond, ◌&&◌, ◌||◌, length, take, drop, eqb, ltb, true, false, Result, Ok, Err}
 use Rattle.lexis.specs.Bytes.{byte_at, run_to, is_digit}
-use Rattle.lexis.specs.declared.number.Index.{Index}
+use Rattle.lexis.specs.declared.number.Over.{Over}
 
 abbrev pub digits_to : List ℕ → ℕ → ℕ
 digits_to s p = run_to is_digit s p
@@ -48,6 +48,16 @@ limit = 18446744073709551615
 -- the bytes of the legacy index at p
 abbrev pub index_bytes : List ℕ → ℕ → List ℕ
 index_bytes s p = take (index_to s p - p) (drop p s)
+
+-- the end of an index, and whether its value is over the limit
+pub record Index : Type 0 where
+  pub end : ℕ
+  pub over : Bool
+
+-- the same as the code has it
+abbrev pub index_of : Result ℕ Over → Index
+index_of (Ok q) = record { end = q; over = false }
+index_of (Err e) = record { end = e.end; over = true }
 
 abbrev pub index_at : List ℕ → ℕ → Index
 index_at s p = record { end = index_to s p; over = ltb limit (value (index_bytes s p)) }

@@ -1,5 +1,5 @@
 -- The thirteen binary operators, with their kinds and levels (01, "Kinds" and "Precedence"), and the other marks.
-use Rattle.std.specs.Prelude.{ℕ, ◌+◌, ◌*◌, ◌-◌, ◌≤◌, ◌≡◌, List, [], ◌∷◌, Bool, false, cond, not, ◌&&◌, ◌||◌, length, drop}
+use Rattle.std.specs.Prelude.{ℕ, ◌+◌, ◌*◌, ◌-◌, ◌≤◌, ◌≡◌, List, [], ◌∷◌, Bool, false, cond, not, ◌&&◌, ◌||◌, length, drop, Option, Some, None}
 use Rattle.lexis.specs.Bytes.{begins, stands}
 use Rattle.lexis.specs.declared.operator.Op.{Op}
 
@@ -13,6 +13,11 @@ op k l w = record { kind = k; level = l; width = w }
 
 abbrev pub no_op : Op
 no_op = op 0 0 0
+
+-- the same as the code has it
+abbrev pub op_of : Option Op → Op
+op_of None = no_op
+op_of (Some o) = o
 
 abbrev pub row : List ℕ → ℕ → ℕ → Row
 row bs k l = record { bytes = bs; op = op k l (length bs) }

@@ -1,5 +1,5 @@
 -- Literal text, quoted and in heredocs (01, "Reading rules"): units, and the longest run of units.
-use Rattle.std.specs.Prelude.{ℕ, zero, suc, ◌+◌, ◌-◌, ◌*◌, ◌/◌, ◌%◌, ◌≤◌, ◌≡◌, List, [], ◌∷◌, ◌++◌, Bool, true, false, cond, ◌&&◌, ◌||◌, length, take, drop, leb, eqb}
+use Rattle.std.specs.Prelude.{ℕ, zero, suc, ◌+◌, ◌-◌, ◌*◌, ◌/◌, ◌%◌, ◌≤◌, ◌≡◌, List, [], ◌∷◌, ◌++◌, Bool, true, false, cond, ◌&&◌, ◌||◌, length, take, drop, leb, eqb, Result, Ok, Err, IfOk}
 use Rattle.std.proofs.Math.Bool as bool
 use Rattle.std.proofs.Math.Option.{Option, none, some}
 use Rattle.lexis.specs.Bytes.{byte_at, is_digit, is_hex}
@@ -9,7 +9,7 @@ use Rattle.lexis.specs.declared.heredoc.Line.{Line}
 use Rattle.lexis.specs.declared.heredoc.Line.TheVariants as line
 use Rattle.lexis.specs.declared.string.Why.{Why}
 use Rattle.lexis.specs.declared.string.Why.TheVariants.{Quote, Interpolation, Directive, Escape, Closing, Foreign, End}
-use Rattle.lexis.specs.declared.string.Piece.{Piece}
+use Rattle.lexis.specs.declared.string.Unit.{Unit as Made}
 use Rattle.lexis.specs.declared.string.Run.{Run}
 
 -- the text round a run: quoted, or a heredoc with its delimiter
@@ -147,19 +147,33 @@ unfoldable pub unpacked : ℕ → ℕ → List ℕ
 unpacked zero v = []
 unpacked (suc n) v = (v % 256) ∷ unpacked n (v / 256)
 
--- a unit as the code says it: its width, its bytes in one number, and how many they are
+-- a unit in numbers: its width, its bytes in one number, and how many they are; and why none stands
+pub record Piece : Type 0 where
+  pub width : ℕ
+  pub bytes : ℕ
+  pub count : ℕ
+  pub why : Why
+
 abbrev pub piece_is : ℕ → ℕ → ℕ → Piece
 piece_is w b n = record { width = w; bytes = b; count = n; why = End }
 
--- what the code says of a unit: where none stands, its width is 0
+-- where none stands, its width is 0
 abbrev pub piece_of : Unit → Piece
 piece_of (is w bs e) = piece_is w (packed bs) (length bs)
 piece_of (not why) = record { width = 0; bytes = 0; count = 0; why = why }
 
--- r is the value of the digit b, and 16 where b is none
-pub record Hex (b r : ℕ) : Type 0 where
-  pub is : r ≡ cond (is_hex b) (hex_of b) 16
-  pub high : r ≤ 16
+-- the same of what the code answers
+abbrev pub piece_from : Result Made Why → Piece
+piece_from (Ok u) = piece_is u.width u.bytes u.count
+piece_from (Err y) = piece_of (not y)
+
+-- what the code answers for a unit
+abbrev pub made_of : ℕ → ℕ → ℕ → Made
+made_of w b n = record { width = w; bytes = b; count = n }
+
+abbrev pub answer_of : Unit → Result Made Why
+answer_of (is w bs e) = Ok (made_of w (packed bs) (length bs))
+answer_of (not y) = Err y
 
 -- r is the unit at p, within the source, and its text is no longer than it is
 pub record UnitHere (s : List ℕ) (u : Unit) (p : ℕ) (r : Piece) : Type 0 where
@@ -167,6 +181,11 @@ pub record UnitHere (s : List ℕ) (u : Unit) (p : ℕ) (r : Piece) : Type 0 whe
   pub high : r.width ≤ length s - p
   pub few : r.count ≤ r.width
   pub small : r.count ≤ 4
+
+-- r is what the code answers of the unit at p; one that stands has a width
+pub record UnitAt (s : List ℕ) (u : Unit) (p : ℕ) (r : Result Made Why) : Type 0 where
+  pub here : UnitHere s u p (piece_from r)
+  pub wide : IfOk r (λ v. 1 ≤ v.width)
 
 -- r is the run from p. It ends within the source, or at p where p is past its end; its text is no longer than the run
 pub record RunHere (m : Mode) (s : List ℕ) (p : ℕ) (r : Run) : Type 0 where

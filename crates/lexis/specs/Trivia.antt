@@ -1,8 +1,9 @@
 -- Trivia: space, line endings and comments (01, "Reading rules": space, line ending, comments, the two modes), and what ends an object's item.
-use Rattle.std.specs.Prelude.{ℕ, suc, zero, ◌+◌, ◌-◌, ◌≤◌, ◌≡◌, List, [], ◌∷◌, Bool, true, false, cond, ◌||◌, length, drop, ltb, eqb}
+use Rattle.std.specs.Prelude.{ℕ, suc, zero, ◌+◌, ◌-◌, ◌≤◌, ◌≡◌, List, [], ◌∷◌, Bool, true, false, cond, ◌||◌, length, drop, ltb, eqb, Result, Ok, Err}
 use Rattle.lexis.specs.Bytes.{byte_at, is_space, begins, up_to}
-use Rattle.lexis.specs.declared.trivia.Gap.{Gap}
+use Rattle.lexis.specs.declared.trivia.Unclosed.{Unclosed}
 use Rattle.lexis.specs.declared.trivia.Stop.{Stop}
+use Rattle.lexis.specs.declared.trivia.Stop.TheVariants.{Nothing, End, Cut}
 
 -- the width of the line ending at the front of a list: LF is 1, CRLF is 2; 0 where none stands, a lone CR among that
 -- 01: "Line ending: LF or CRLF; a lone CR outside literal text and comments is Unexpected."
@@ -56,11 +57,20 @@ item lines xs =
     (cond (begins (47 ∷ 42 ∷ []) xs) (block (drop 2 xs)) (cond lines (line_item xs) none))
 
 -- where trivia ends, or where the block comment starts that nothing closes
+pub record Gap : Type 0 where
+  pub at : ℕ
+  pub unclosed : Bool
+
 abbrev pub ends_at : ℕ → Gap
 ends_at p = record { at = p; unclosed = false }
 
 abbrev pub open_at : ℕ → Gap
 open_at p = record { at = p; unclosed = true }
+
+-- the same as the code has it
+abbrev pub gap_of : Result ℕ Unclosed → Gap
+gap_of (Ok q) = ends_at q
+gap_of (Err e) = open_at e.at
 
 -- an item at p, as a place: p itself where none stands
 abbrev pub placed : ℕ → Item → Gap
@@ -108,23 +118,37 @@ pub record Gapped (lines : Bool) (s : List ℕ) (p : ℕ) (r : Gap) : Type 0 whe
 
 -- what ends an object's item (01: `,`, a line ending, a line comment with its ending): nothing does (0), its end (1),
 -- or a line comment that the source's end cuts (2), at the source's length
-abbrev pub stop_at : ℕ → ℕ → Stop
+pub record Stopping : Type 0 where
+  pub at : ℕ
+  pub how : ℕ
+
+abbrev pub stop_at : ℕ → ℕ → Stopping
 stop_at how p = record { at = p; how = how }
 
+-- the same as the code has it, at the place p: for an item, and for a line comment
+abbrev pub stop_of : ℕ → Stop → Stopping
+stop_of p Nothing = stop_at 0 p
+stop_of p (End q) = stop_at 1 q
+stop_of p (Cut q) = stop_at 2 q
+
+abbrev pub comment_of : Result ℕ ℕ → Stopping
+comment_of (Ok q) = stop_at 1 q
+comment_of (Err q) = stop_at 2 q
+
 -- a line comment whose text ends at `e`, with a line ending of so many bytes
-abbrev pub stop_comment : ℕ → ℕ → Stop
+abbrev pub stop_comment : ℕ → ℕ → Stopping
 stop_comment e zero = stop_at 2 e
 stop_comment e (suc n) = stop_at 1 (e + suc n)
 
-abbrev pub line_comment : ℕ → List ℕ → Stop
+abbrev pub line_comment : ℕ → List ℕ → Stopping
 line_comment p xs = stop_comment (p + comment xs) (ending (drop (comment xs) xs))
 
-abbrev pub stop : ℕ → List ℕ → Stop
+abbrev pub stop : ℕ → List ℕ → Stopping
 stop p xs =
     cond (begins (44 ∷ []) xs) (stop_at 1 (p + 1))
     (cond (ends_line xs) (stop_at 1 (p + ending xs)) (cond (starts_comment xs) (line_comment p xs) (stop_at 0 p)))
 
-abbrev pub stop_to : List ℕ → ℕ → Stop
+abbrev pub stop_to : List ℕ → ℕ → Stopping
 stop_to s p = stop p (drop p s)
 
 -- `r` is the first LF at or after p, or the source's end: a line comment whose text goes on at p is the same from there
@@ -135,13 +159,13 @@ pub record Lined (s : List ℕ) (p r : ℕ) : Type 0 where
   pub high : r ≤ p + (length s - p)
 
 -- `r` is where the line comment ends whose text goes on at p
-pub record Commented (s : List ℕ) (p : ℕ) (r : Stop) : Type 0 where
+pub record Commented (s : List ℕ) (p : ℕ) (r : Stopping) : Type 0 where
   pub is : r ≡ line_comment p (drop p s)
   pub low : p ≤ r.at
   pub high : r.at ≤ p + (length s - p)
 
 -- `r` is what ends an item at p
-pub record Stopped (s : List ℕ) (p : ℕ) (r : Stop) : Type 0 where
+pub record Stopped (s : List ℕ) (p : ℕ) (r : Stopping) : Type 0 where
   pub is : r ≡ stop_to s p
   pub low : p ≤ r.at
   pub high : r.at ≤ p + (length s - p)

@@ -1,10 +1,8 @@
 -- Laws on trivia: its bounds, that it ends where no item of it stands, and that more trivia goes on from where less ends.
 use Rattle.std.specs.Prelude.{ℕ, zero, suc, ◌+◌, ◌-◌, ◌≤◌, ◌<◌, ◌≡◌, refl, List, [], ◌∷◌, Bool, true, false, cond, not, ◌&&◌, ◌||◌, ◌⊎◌, length, drop, eqb, T}
 use Rattle.std.proofs.Common.{sym, ap, ◌∙◌, inl, inr, add-zero, arith, length-drop, drop-drop, ltb-true}
-use Rattle.lexis.specs.declared.trivia.Gap.{Gap}
-use Rattle.lexis.specs.declared.trivia.Stop.{Stop}
 use Rattle.lexis.specs.Bytes.{byte_at, is_space, begins, up_to}
-use Rattle.lexis.specs.Trivia.{ending, ends_line, starts_comment, comment, Item, none, wide, endless, closes, block, block_as, line_item, item, gap, gap_to, stop, stop_at, stop_comment, line_comment}
+use Rattle.lexis.specs.Trivia.{ending, ends_line, starts_comment, comment, Item, none, wide, endless, closes, block, block_as, line_item, item, Gap, gap, gap_to, Stopping, stop, stop_at, stop_comment, line_comment}
 use Rattle.lexis.specs.RunLaws.{clash, left, other, begins_most, up_most}
 
 -- two items that differ
@@ -228,7 +226,7 @@ abbrev pub Stops : List ℕ → Type 0
 Stops xs = (begins (44 ∷ []) xs ≡ true) ⊎ ((ends_line xs ≡ true) ⊎ (starts_comment xs ≡ true))
 
 -- where an item's end is: within the source; and past p, with what ends it, where one stands there
-pub record StopBy (p : ℕ) (xs : List ℕ) (r : Stop) : Type 0 where
+pub record StopBy (p : ℕ) (xs : List ℕ) (r : Stopping) : Type 0 where
   pub low : p ≤ r.at
   pub high : r.at ≤ p + length xs
   pub past : r.how ≡ 1 → p < r.at

@@ -1,5 +1,5 @@
 -- Well-formed UTF-8 (Unicode, Table 3-7): sequences of one to four bytes, and sources that are made of them.
-use Rattle.std.specs.Prelude.{ℕ, zero, suc, ◌+◌, ◌-◌, ◌/◌, ◌%◌, ◌≤◌, ◌<◌, max, ◌≡◌, List, [], ◌∷◌, ◌++◌, Bool, true, false, cond, ◌&&◌, ◌||◌, length, take, drop, replicate, leb, ltb, eqb}
+use Rattle.std.specs.Prelude.{ℕ, zero, suc, ◌+◌, ◌-◌, ◌/◌, ◌%◌, ◌≤◌, ◌<◌, max, ◌≡◌, List, [], ◌∷◌, ◌++◌, Bool, true, false, cond, ◌&&◌, ◌||◌, length, take, replicate, leb, ltb, eqb}
 
 -- from a byte to a byte, both included
 pub record Range : Type 0 where
@@ -57,11 +57,6 @@ sequence (b ∷ s) = width_by table b s
 -- the width of a sequence by the list behind its first byte: a byte from low to high, then n - 1 tails
 abbrev pub behind_of : List ℕ → ℕ → ℕ → ℕ → ℕ
 behind_of l low high n = cond (fits ((low to high) ∷ replicate (n - 1) tail) l) (n + 1) 0
-
--- r is the width of the sequence at p, which is within the source
-pub record Wide (s : List ℕ) (p r : ℕ) : Type 0 where
-  pub is : r ≡ sequence (drop p s)
-  pub high : r ≤ length s - p
 
 -- a source is well formed if it is sequences, one after the other
 pub data Formed : List ℕ → Type 0 where

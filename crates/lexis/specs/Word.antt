@@ -1,5 +1,5 @@
 -- Identifiers and the words that 01 gives a meaning.
-use Rattle.std.specs.Prelude.{ℕ, ◌+◌, List, [], ◌∷◌, Bool, cond, not, ◌&&◌, ◌||◌, length, eqb}
+use Rattle.std.specs.Prelude.{ℕ, zero, suc, ◌+◌, List, [], ◌∷◌, Bool, cond, not, ◌&&◌, ◌||◌, length, eqb, Option, Some, None}
 use Rattle.lexis.specs.Bytes.{byte_at, run_to, is_space, is_start, is_rest, stands}
 
 -- the end of the identifier at p; p where none starts
@@ -37,6 +37,11 @@ for' = 102 ∷ 111 ∷ 114 ∷ []
 -- the kind of the constant that the identifier at p is: 1 null, 2 true, 3 false; 0 where it is none
 abbrev pub constant_at : List ℕ → ℕ → ℕ
 constant_at s p = cond (is_word null s p) 1 (cond (is_word yes s p) 2 (cond (is_word no s p) 3 0))
+
+-- the same as the code has it
+abbrev pub kind_or_none : ℕ → Option ℕ
+kind_or_none zero = None
+kind_or_none (suc k) = Some (suc k)
 
 -- what must stand right behind `for`: space, tab, CR, LF, `#` or `/`
 abbrev pub ends_for : ℕ → Bool

@@ -87,12 +87,8 @@ pub fn two_at(s: &[u8], p: usize, a: u8, b: u8) -> bool
 pub fn all_at(s: &[u8], p: usize, w: &[u8]) -> bool
     ensures { result ≡ stands w.now s.now p }
 {
-    let mut i = 0;
-    while i < w.len() {
-        if !one_at(s, p + i, w[i]) {
-            return false;
-        }
-        i += 1;
+    match s.get(p..) {
+        Some(rest) => rest.starts_with(w),
+        None => w.is_empty(),
     }
-    true
 }

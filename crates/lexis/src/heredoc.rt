@@ -1,46 +1,39 @@
 // Heredocs: the opener, and the line that closes the text.
-ghost use Rattle.std.specs.Prelude.{◌≡◌, min};
+ghost use Rattle.std.specs.Prelude.{◌≡◌};
 ghost use Rattle.lexis.specs.Bytes.{Ran, is_space, run_to};
-ghost use Rattle.lexis.specs.Heredoc.{part, line_at, fresh_at, fails, opener_word, opener_at, Opened};
+ghost use Rattle.lexis.specs.Heredoc.{part, line_at, fresh_at, opener_of, opener_word, opener_at, Opened};
 
-use crate::bytes::{byte_at, is_foreign, is_rest, is_space, one_at, two_at};
+use crate::bytes::{all_at, byte_at, is_foreign, is_rest, is_space, one_at, two_at};
 use crate::trivia::line_ending;
 use crate::word::ident_end;
 
 // What a line of a heredoc is: text; the closing line, with the end of its delimiter; or a scalar of 128 or more right after a delimiter, with its place.
-#[derive(Clone, Copy, Drop)]
+#[derive(Clone, Copy, Debug, PartialEq, Eq, Drop)]
 pub enum Line {
     Text,
     Closes(usize),
     Foreign(usize),
 }
 
-// An opener: its flag, its delimiter from `from` to `to`, and at `at` the start of the text; or, not good, the place at which something else stands.
-#[derive(Clone, Copy, Drop)]
+// An opener: its flag, its delimiter from `from` to `to`, and at `at` the start of the text.
+#[derive(Clone, Copy, Debug, PartialEq, Eq, Drop)]
 pub struct Opener {
-    pub good: bool,
     pub dash: bool,
     pub from: usize,
     pub to: usize,
     pub at: usize,
 }
 
-// The smaller of two numbers.
-pub fn least(a: usize, b: usize) -> usize
-    ensures { result ≡ min a b }
-{
-    if a < b { a } else { b }
-}
-
 // The first place at or after p that has no space.
 fn spaces_end(s: &[u8], p: usize) -> usize
     ensures { Ran s.now p (run_to is_space s.now p) result }
 {
-    let mut i = p;
-    while is_space(byte_at(s, i)) {
-        i += 1;
+    for i in p..s.len() {
+        if !is_space(byte_at(s, i)) {
+            return i;
+        }
     }
-    i
+    p.max(s.len())
 }
 
 // Whether a line starts at p.
@@ -58,16 +51,13 @@ pub fn starts_line(s: &[u8], p: usize) -> bool
 pub fn line_at(s: &[u8], d: usize, e: usize, p: usize) -> Line
     ensures { result ≡ line_at (part s.now d e) s.now p }
 {
-    let to = least(e, s.len());
-    let mut j = spaces_end(s, p);
-    let mut k = d;
-    while k < to {
-        if byte_at(s, j) != byte_at(s, k) {
-            return Line::Text;
-        }
-        j += 1;
-        k += 1;
+    let to = e.min(s.len());
+    let delimiter = &s[d.min(to)..to];
+    let from = spaces_end(s, p);
+    if !all_at(s, from, delimiter) {
+        return Line::Text;
     }
+    let j = from + delimiter.len();
     let b = byte_at(s, j);
     if is_rest(b) {
         Line::Text
@@ -78,46 +68,32 @@ pub fn line_at(s: &[u8], d: usize, e: usize, p: usize) -> Line
     }
 }
 
-// No opener: what stands at p is something else.
-fn no_opener(p: usize) -> Opener
-    ensures { result ≡ fails p }
-{
-    Opener {
-        good: false,
-        dash: false,
-        from: 0,
-        to: 0,
-        at: p,
-    }
-}
-
 // The delimiter at d and the line ending behind it.
-fn delimiter_at(s: &[u8], d: usize, dash: bool) -> Opener
-    ensures { Opened (opener_word s.now dash d) s.now d result }
+fn delimiter_at(s: &[u8], d: usize, dash: bool) -> Result<Opener, usize>
+    ensures { Opened (opener_word s.now dash d) s.now d (opener_of result) }
 {
     let e = ident_end(s, d);
     if e == d {
-        return no_opener(d);
+        return Err(d);
     }
     let w = line_ending(s, e);
     if w == 0 {
-        return no_opener(e);
+        return Err(e);
     }
-    Opener {
-        good: true,
-        dash: dash,
+    Ok(Opener {
+        dash,
         from: d,
         to: e,
         at: e + w,
-    }
+    })
 }
 
-// The opener at p.
-pub fn opener_at(s: &[u8], p: usize) -> Opener
-    ensures { Opened (opener_at s.now p) s.now p result }
+// The opener at p; or the place at which something else stands.
+pub fn opener_at(s: &[u8], p: usize) -> Result<Opener, usize>
+    ensures { Opened (opener_at s.now p) s.now p (opener_of result) }
 {
     if !two_at(s, p, 60, 60) {
-        return no_opener(p);
+        return Err(p);
     }
     if one_at(s, p + 2, 45) {
         return delimiter_at(s, p + 3, true);

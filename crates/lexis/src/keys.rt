@@ -1,9 +1,8 @@
 // Equal keys of an object.
 ghost use Rattle.std.specs.Prelude.{◌≡◌, [], drop};
-ghost use Rattle.lexis.specs.Keys.{alike, rest_of, is_quote, plain, string_at, same_as, same_key, met_before};
+ghost use Rattle.lexis.specs.Keys.{alike, rest_of, plain, string_at, same_as, same_key, met_before};
 
 use crate::bytes::{byte_at, is_rest, is_start};
-use crate::heredoc::least;
 use crate::string::{Why, unit_at};
 
 const QUOTE: u16 = 34;
@@ -28,25 +27,14 @@ fn same_rest(s: &[u8], a: usize, b: usize) -> bool
     }
 }
 
-fn is_quote(why: Why) -> bool
-    ensures { result ≡ is_quote why }
-{
-    match why {
-        Why::Quote => true,
-        _ => false,
-    }
-}
-
 // Whether the string whose text starts at p has none and is closed at once.
 fn closes_at(s: &[u8], p: usize) -> bool
     ensures { result ≡ same_as (plain []) (string_at s.now p) }
 {
-    let u = unit_at(s, p, true);
-    if u.width != 0 {
-        return false;
+    match unit_at(s, p, true) {
+        Ok(_) => false,
+        Err(why) => why == Why::Quote,
     }
-    let why = u.why;
-    is_quote(why)
 }
 
 // Whether two plain strings, whose text starts at a and at b, have the same text. Units are read as they are needed, and compared byte by byte: u and v are
@@ -62,30 +50,23 @@ fn same_text(s: &[u8], a: usize, b: usize) -> bool
     let mut m: u8 = 0;
     loop {
         if n == 0 {
-            let x = unit_at(s, i, true);
-            let w = x.width;
-            if w == 0 {
-                if m != 0 {
-                    return false;
+            match unit_at(s, i, true) {
+                Ok(x) => {
+                    i += x.width;
+                    u = x.bytes;
+                    n = x.count;
                 }
-                let why = x.why;
-                if !is_quote(why) {
-                    return false;
+                Err(why) => {
+                    return m == 0 && why == Why::Quote && closes_at(s, j);
                 }
-                return closes_at(s, j);
             }
-            i += w;
-            u = x.bytes;
-            n = x.count;
             continue;
         }
         if m == 0 {
-            let y = unit_at(s, j, true);
-            let w = y.width;
-            if w == 0 {
+            let Ok(y) = unit_at(s, j, true) else {
                 return false;
-            }
-            j += w;
+            };
+            j += y.width;
             v = y.bytes;
             m = y.count;
             continue;
@@ -123,19 +104,16 @@ pub fn met_before(s: &[u8], starts: &[u16], from: usize, to: usize, p: usize) ->
     ensures { result ≡ met_before s.now starts.now from to p }
 {
     let first = byte_at(s, p);
-    let end = least(to, starts.len());
-    let mut k = from;
-    'keys: loop {
-        if end <= k {
-            return false;
-        }
+    let end = to.min(starts.len());
+    let mut met = false;
+    'keys: for k in from..end {
         let a = starts[k] as usize;
-        k += 1;
         if byte_at(s, a) != first {
             continue 'keys;
         }
         if first == QUOTE {
             if same_text(s, a + 1, p + 1) {
+                met = true;
                 break 'keys;
             }
             continue 'keys;
@@ -152,6 +130,7 @@ pub fn met_before(s: &[u8], starts: &[u16], from: usize, to: usize, p: usize) ->
                 if is_rest(y) {
                     continue 'keys;
                 }
+                met = true;
                 break 'keys;
             }
             if x != y {
@@ -161,5 +140,5 @@ pub fn met_before(s: &[u8], starts: &[u16], from: usize, to: usize, p: usize) ->
             j += 1;
         }
     }
-    true
+    met
 }

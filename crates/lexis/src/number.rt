@@ -1,18 +1,17 @@
 // Numbers, and the legacy index.
 ghost use Rattle.std.specs.Prelude.{◌≡◌};
 ghost use Rattle.lexis.specs.Bytes.{Ran};
-ghost use Rattle.lexis.specs.Number.{digits_to, fraction_to, sign_to, is_exponent, exponent_to, number_to, Indexed};
+ghost use Rattle.lexis.specs.Number.{digits_to, fraction_to, sign_to, is_exponent, exponent_to, number_to, index_of, Indexed};
 
 use crate::bytes::{byte_at, is_digit};
 
-// The end of a legacy index, and whether its value is over the limit.
-#[derive(Clone, Copy, Drop)]
-pub struct Index {
+// A legacy index that is over the limit, and where its digits end.
+#[derive(Clone, Copy, Debug, PartialEq, Eq, Drop)]
+pub struct Over {
     pub end: usize,
-    pub over: bool,
 }
 
-impl Index {
+impl Over {
     // The largest index.
     pub const LIMIT: u64 = 18446744073709551615;
 }
@@ -21,14 +20,12 @@ impl Index {
 pub fn digits_end(s: &[u8], p: usize) -> usize
     ensures { Ran s.now p (digits_to s.now p) result }
 {
-    let mut i = p;
-    loop {
-        let b = byte_at(s, i);
-        if !is_digit(b) {
+    for i in p..s.len() {
+        if !is_digit(byte_at(s, i)) {
             return i;
         }
-        i += 1;
     }
+    p.max(s.len())
 }
 
 // The end of the `.` and digits at p; p where they do not stand.
@@ -85,34 +82,26 @@ pub fn number_end(s: &[u8], p: usize) -> usize
     exponent_end(s, f)
 }
 
-// The legacy index at p; its end is p where none starts.
-pub fn index_at(s: &[u8], p: usize) -> Index
-    ensures { Indexed s.now p result }
+// The end of the legacy index at p; p where none starts.
+pub fn index_at(s: &[u8], p: usize) -> Result<usize, Over>
+    ensures { Indexed s.now p (index_of result) }
 {
-    let mut c = byte_at(s, p);
-    if c == 48 {
-        return Index {
-            end: p + 1,
-            over: false,
-        };
+    if byte_at(s, p) == 48 {
+        return Ok(p + 1);
     }
-    let mut i = p;
     let mut v: u64 = 0;
-    loop {
+    for i in p..s.len() {
+        let c = byte_at(s, i);
         if !is_digit(c) {
-            return Index {
-                end: i,
-                over: false,
-            };
+            return Ok(i);
         }
-        let d = (c - 48) as u64;
+        let d = u64::from(c - 48);
         // ten times v and d are over the limit
-        if (Index::LIMIT - d) / 10 < v {
-            let e = digits_end(s, i + 1);
-            return Index { end: e, over: true };
+        if (Over::LIMIT - d) / 10 < v {
+            let end = digits_end(s, i + 1);
+            return Err(Over { end });
         }
         v = v * 10 + d;
-        i += 1;
-        c = byte_at(s, i);
     }
+    Ok(p.max(s.len()))
 }

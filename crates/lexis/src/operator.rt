@@ -1,12 +1,12 @@
 // The binary operators, and the other marks.
-ghost use Rattle.std.specs.Prelude.{◌≡◌, [], ◌∷◌, cond, ◌+◌, ◌<◌, length};
+ghost use Rattle.std.specs.Prelude.{◌≡◌, [], ◌∷◌, cond, ◌+◌, ◌<◌, length, Some, IfSome};
 ghost use Rattle.lexis.specs.Bytes.{stands, Ran};
-ghost use Rattle.lexis.specs.Operator.{op, OpHere, mark_to, question_to, colon_to, colons_to, dot_to, dots_to, equals_to, arrow_to, bang_to};
+ghost use Rattle.lexis.specs.Operator.{op, op_of, OpHere, mark_to, question_to, colon_to, colons_to, dot_to, dots_to, equals_to, arrow_to, bang_to};
 
 use crate::bytes::{all_at, byte_at, one_at, two_at};
 
-// An operator: its kind, its level (the tightest is 6) and its width; all 0 for none.
-#[derive(Clone, Copy, Drop)]
+// An operator: its kind, its level (the tightest is 6) and its width.
+#[derive(Clone, Copy, Debug, PartialEq, Eq, Drop)]
 pub struct Op {
     pub kind: u16,
     pub level: u16,
@@ -14,8 +14,6 @@ pub struct Op {
 }
 
 impl Op {
-    pub const NONE: u16 = 0;
-
     pub const TIMES: u16 = 24;
 
     pub const DIVIDE: u16 = 25;
@@ -43,42 +41,42 @@ impl Op {
     pub const OR: u16 = 36;
 }
 
-fn make(kind: u16, level: u16, width: usize) -> Op
-    ensures { result ≡ op kind level width }
+fn some(kind: u16, level: u16, width: usize) -> Option<Op>
+    ensures { result ≡ Some (op kind level width) }
 {
-    Op { kind, level, width }
+    Some(Op { kind, level, width })
 }
 
-// One of two operators, by whether b stands behind the byte at p.
-fn followed(s: &[u8], p: usize, b: u8, two: Op, one: Op) -> Op
+// One of two answers, by whether b stands behind the byte at p.
+fn followed(s: &[u8], p: usize, b: u8, two: Option<Op>, one: Option<Op>) -> Option<Op>
     requires { p < length s.now }
     ensures { result ≡ cond (stands (b ∷ []) s.now (p + 1)) two one }
 {
     if one_at(s, p + 1, b) { two } else { one }
 }
 
-// The operator at p; kind 0 where none stands.
-pub fn op_at(s: &[u8], p: usize) -> Op
-    ensures { OpHere s.now p result }
+// The operator at p.
+pub fn op_at(s: &[u8], p: usize) -> Option<Op>
+    ensures here { OpHere s.now p (op_of result) }
+    ensures named { IfSome result (λ o. 0 < o.kind) }
 {
     let a = byte_at(s, p);
-    let none = make(Op::NONE, 0, 0);
     match a {
-        42 => make(Op::TIMES, 6, 1),
+        42 => some(Op::TIMES, 6, 1),
         47 => {
-            let slash = followed(s, p, 42, none, make(Op::DIVIDE, 6, 1));
-            followed(s, p, 47, none, slash)
+            let slash = followed(s, p, 42, None, some(Op::DIVIDE, 6, 1));
+            followed(s, p, 47, None, slash)
         }
-        37 => make(Op::MODULO, 6, 1),
-        43 => make(Op::PLUS, 5, 1),
-        45 => make(Op::MINUS, 5, 1),
-        62 => followed(s, p, 61, make(Op::AT_LEAST, 4, 2), make(Op::GREATER, 4, 1)),
-        60 => followed(s, p, 61, make(Op::AT_MOST, 4, 2), make(Op::LESS, 4, 1)),
-        61 => followed(s, p, 61, make(Op::EQUAL, 3, 2), none),
-        33 => followed(s, p, 61, make(Op::UNEQUAL, 3, 2), none),
-        38 => followed(s, p, 38, make(Op::AND, 2, 2), none),
-        124 => followed(s, p, 124, make(Op::OR, 1, 2), none),
-        _ => none,
+        37 => some(Op::MODULO, 6, 1),
+        43 => some(Op::PLUS, 5, 1),
+        45 => some(Op::MINUS, 5, 1),
+        62 => followed(s, p, 61, some(Op::AT_LEAST, 4, 2), some(Op::GREATER, 4, 1)),
+        60 => followed(s, p, 61, some(Op::AT_MOST, 4, 2), some(Op::LESS, 4, 1)),
+        61 => followed(s, p, 61, some(Op::EQUAL, 3, 2), None),
+        33 => followed(s, p, 61, some(Op::UNEQUAL, 3, 2), None),
+        38 => followed(s, p, 38, some(Op::AND, 2, 2), None),
+        124 => followed(s, p, 124, some(Op::OR, 1, 2), None),
+        _ => None,
     }
 }
 

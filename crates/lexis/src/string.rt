@@ -1,15 +1,15 @@
 // Literal text, quoted and in heredocs.
-ghost use Rattle.std.specs.Prelude.{◌≡◌, ◌+◌, ◌-◌, ◌≤◌, ◌<◌, length, drop, [], ◌∷◌, true};
+ghost use Rattle.std.specs.Prelude.{◌≡◌, ◌+◌, ◌-◌, ◌≤◌, ◌<◌, length, drop, [], ◌∷◌, true, cond, Some, None, IfSome};
 ghost use Rattle.std.proofs.Math.Seq.{paste};
-ghost use Rattle.lexis.specs.Bytes.{byte_at, run_to, Ran};
+ghost use Rattle.lexis.specs.Bytes.{byte_at, is_hex, run_to, Ran};
 ghost use Rattle.lexis.specs.Utf8.{is_scalar};
-ghost use Rattle.lexis.specs.String.{piece_is, piece_of, is, not, scalar_of, scalar, escape, marker, unit, unit_in, plain_in, mode_of, text_at, Hex, UnitHere, RunHere, unpacked, Wrote};
+ghost use Rattle.lexis.specs.String.{made_of, answer_of, is, hex_of, scalar_of, scalar, escape, marker, unit, unit_in, plain_in, mode_of, text_at, packed, UnitAt, RunHere, unpacked, Wrote};
 
 use crate::bytes::{NOTHING, byte_at, is_digit, within};
 use crate::heredoc::{Line, line_at, starts_line};
 
 // Why a run of literal text ends, or no unit stands at a place.
-#[derive(Clone, Copy, Drop)]
+#[derive(Clone, Copy, Debug, PartialEq, Eq, Drop)]
 pub enum Why {
     Quote,
     Interpolation,
@@ -20,13 +20,12 @@ pub enum Why {
     End,
 }
 
-// A unit: its width, 0 where none stands; its unescaped bytes in one number, the first lowest, and how many they are; and why none stands.
-#[derive(Clone, Copy, Drop)]
-pub struct Piece {
+// A unit: its width, and its unescaped bytes in one number, the first lowest, and how many they are.
+#[derive(Clone, Copy, Debug, PartialEq, Eq, Drop)]
+pub struct Unit {
     pub width: usize,
     pub bytes: u32,
     pub count: u8,
-    pub why: Why,
 }
 
 // A run: where and why it ends, whether it has an escape or an escaped marker, and the length of its unescaped text.
@@ -38,57 +37,43 @@ pub struct Run {
     pub escaped: bool,
 }
 
-const NO_DIGIT: u32 = 16;
-
 const LAST_SCALAR: u32 = 0x10FFFF;
 
 const BRACE: u16 = 123;
 
-// No unit stands, and why.
-fn stop(why: Why) -> Piece
-    ensures { result ≡ piece_of (not why) }
-{
-    Piece {
-        width: 0,
-        bytes: 0,
-        count: 0,
-        why: why,
-    }
-}
-
 // The unit of so many bytes with the given text: its bytes in one number, and how many they are.
-fn made(width: usize, bytes: u32, count: u8) -> Piece
-    ensures { result ≡ piece_is width bytes count }
+fn made(width: usize, bytes: u32, count: u8) -> Unit
+    ensures { result ≡ made_of width bytes count }
 {
-    Piece {
+    Unit {
         width: width,
         bytes: bytes,
         count: count,
-        why: Why::End,
     }
 }
 
 // The unit of so many bytes whose text is the byte b.
-fn one(width: usize, b: u8) -> Piece
-    ensures { result ≡ piece_of (is width (b ∷ []) true) }
+fn one(width: usize, b: u8) -> Unit
+    ensures { result ≡ made_of width (packed (b ∷ [])) 1 }
 {
     made(width, b as u32, 1)
 }
 
-// The value of a hexadecimal digit; NO_DIGIT where b is none.
-fn hex_value(b: u16) -> u32
-    ensures { Hex b result }
+// The value of a hexadecimal digit.
+fn hex_value(b: u16) -> Option<u32>
+    ensures value { result ≡ cond (is_hex b) (Some (hex_of b)) None }
+    ensures low { IfSome result (λ d. d < 16) }
 {
     if is_digit(b) {
-        return b as u32 - 48;
+        return Some(b as u32 - 48);
     }
     if within(b, 97, 102) {
-        return b as u32 - 87;
+        return Some(b as u32 - 87);
     }
     if within(b, 65, 70) {
-        return b as u32 - 55;
+        return Some(b as u32 - 55);
     }
-    NO_DIGIT
+    None
 }
 
 // Whether v is a scalar: no surrogate, and nothing over 10FFFF.
@@ -99,73 +84,70 @@ fn is_scalar(v: u32) -> bool
 }
 
 // The escape of so many bytes that is worth v.
-fn encode(width: usize, v: u32) -> Piece
+fn encode(width: usize, v: u32) -> Result<Unit, Why>
     requires { v ≤ 0x10FFFF }
-    ensures { result ≡ piece_of (scalar_of width v) }
+    ensures { result ≡ answer_of (scalar_of width v) }
 {
     if !is_scalar(v) {
-        return stop(Why::Escape);
+        return Err(Why::Escape);
     }
     let last = 0x80 + v % 64;
     if v < 0x80 {
-        return made(width, v, 1);
+        return Ok(made(width, v, 1));
     }
     if v < 0x800 {
-        return made(width, (0xC0 + v / 64) + 256 * last, 2);
+        return Ok(made(width, (0xC0 + v / 64) + 256 * last, 2));
     }
     let third = 0x80 + v / 64 % 64;
     if v < 0x10000 {
-        return made(width, (0xE0 + v / 4096) + 256 * third + 65536 * last, 3);
+        return Ok(made(width, (0xE0 + v / 4096) + 256 * third + 65536 * last, 3));
     }
     let second = 0x80 + v / 4096 % 64;
-    made(
+    Ok(made(
         width,
         (0xF0 + v / 262144) + 256 * second + 65536 * third + 16777216 * last,
         4,
-    )
+    ))
 }
 
 // The escape with n hexadecimal digits from p on.
-fn scalar_at(s: &[u8], p: usize, n: usize) -> Piece
+fn scalar_at(s: &[u8], p: usize, n: usize) -> Result<Unit, Why>
     requires { (p ≤ length s.now) × (n ≤ 8) }
-    ensures { result ≡ piece_of (scalar n (drop p s.now)) }
+    ensures { result ≡ answer_of (scalar n (drop p s.now)) }
 {
     let mut v: u32 = 0;
-    let mut k = 0;
-    while k < n {
-        let d = hex_value(byte_at(s, p + k));
-        if d == NO_DIGIT {
-            return stop(Why::Escape);
-        }
+    for k in 0..n {
+        let Some(d) = hex_value(byte_at(s, p + k)) else {
+            return Err(Why::Escape);
+        };
         v = v * 16 + d;
         if LAST_SCALAR < v {
-            return stop(Why::Escape);
+            return Err(Why::Escape);
         }
-        k += 1;
     }
     encode(n + 2, v)
 }
 
 // The escape whose letter is at p.
-fn escape_at(s: &[u8], p: usize) -> Piece
+fn escape_at(s: &[u8], p: usize) -> Result<Unit, Why>
     requires { p ≤ length s.now }
-    ensures { result ≡ piece_of (escape (byte_at s.now p) (drop (p + 1) s.now)) }
+    ensures { result ≡ answer_of (escape (byte_at s.now p) (drop (p + 1) s.now)) }
 {
     let b = byte_at(s, p);
     if b == 110 {
-        return one(2, 10);
+        return Ok(one(2, 10));
     }
     if b == 114 {
-        return one(2, 13);
+        return Ok(one(2, 13));
     }
     if b == 116 {
-        return one(2, 9);
+        return Ok(one(2, 9));
     }
     if b == 92 {
-        return one(2, 92);
+        return Ok(one(2, 92));
     }
     if b == 34 {
-        return one(2, 34);
+        return Ok(one(2, 34));
     }
     if b == 117 {
         return scalar_at(s, p + 1, 4);
@@ -173,33 +155,33 @@ fn escape_at(s: &[u8], p: usize) -> Piece
     if b == 85 {
         return scalar_at(s, p + 1, 8);
     }
-    stop(Why::Escape)
+    Err(Why::Escape)
 }
 
 // The unit at p, where b, a `$` or a `%`, stands: an escaped marker; a marker, which ends the text; or the byte itself.
-fn marker_at(s: &[u8], p: usize, b: u8, why: Why) -> Piece
+fn marker_at(s: &[u8], p: usize, b: u8, why: Why) -> Result<Unit, Why>
     requires { (p < length s.now) × (b < 123) }
-    ensures { result ≡ piece_of (marker why b (byte_at s.now (p + 1)) (byte_at s.now (p + 2))) }
+    ensures { result ≡ answer_of (marker why b (byte_at s.now (p + 1)) (byte_at s.now (p + 2))) }
 {
     let c = byte_at(s, p + 1);
     if c == BRACE {
-        return stop(why);
+        return Err(why);
     }
     if c != b as u16 {
-        return one(1, b);
+        return Ok(one(1, b));
     }
     if byte_at(s, p + 2) != BRACE {
-        return one(1, b);
+        return Ok(one(1, b));
     }
-    made(3, b as u32 + 256 * BRACE as u32, 2)
+    Ok(made(3, b as u32 + 256 * BRACE as u32, 2))
 }
 
 // The unit at p, in quoted text or in a heredoc.
-pub fn unit_at(s: &[u8], p: usize, quoted: bool) -> Piece
-    ensures { UnitHere s.now (unit quoted (drop p s.now)) p result }
+pub fn unit_at(s: &[u8], p: usize, quoted: bool) -> Result<Unit, Why>
+    ensures { UnitAt s.now (unit quoted (drop p s.now)) p result }
 {
     if s.len() <= p {
-        return stop(Why::End);
+        return Err(Why::End);
     }
     let b = s[p];
     if b == 36 {
@@ -209,23 +191,23 @@ pub fn unit_at(s: &[u8], p: usize, quoted: bool) -> Piece
         return marker_at(s, p, 37, Why::Directive);
     }
     if !quoted {
-        return one(1, b);
+        return Ok(one(1, b));
     }
     if b == 34 {
-        return stop(Why::Quote);
+        return Err(Why::Quote);
     }
     if b == 92 {
         return escape_at(s, p + 1);
     }
-    one(1, b)
+    Ok(one(1, b))
 }
 
 // The unit at p, in quoted text, or in a heredoc whose delimiter stands in the source from d to e; fresh: a line starts at p.
-fn unit_in(s: &[u8], p: usize, quoted: bool, fresh: bool, d: usize, e: usize) -> Piece
-    ensures { UnitHere s.now (unit_in (mode_of s.now quoted d e) fresh (drop p s.now)) p result }
+fn unit_in(s: &[u8], p: usize, quoted: bool, fresh: bool, d: usize, e: usize) -> Result<Unit, Why>
+    ensures { UnitAt s.now (unit_in (mode_of s.now quoted d e) fresh (drop p s.now)) p result }
 {
     if s.len() <= p {
-        return stop(Why::End);
+        return Err(Why::End);
     }
     if quoted {
         return unit_at(s, p, true);
@@ -235,8 +217,8 @@ fn unit_in(s: &[u8], p: usize, quoted: bool, fresh: bool, d: usize, e: usize) ->
     }
     match line_at(s, d, e, p) {
         Line::Text => unit_at(s, p, false),
-        Line::Closes(_) => stop(Why::Closing),
-        Line::Foreign(_) => stop(Why::Foreign),
+        Line::Closes(_) => Err(Why::Closing),
+        Line::Foreign(_) => Err(Why::Foreign),
     }
 }
 
@@ -298,20 +280,21 @@ pub fn run_at(s: &[u8], p: usize, quoted: bool, d: usize, e: usize) -> Run
                 escaped: n < i - p,
             };
         }
-        let u = unit_in(s, i, quoted, fresh, d, e);
-        let w = u.width;
-        if w == 0 {
-            let why = u.why;
-            return Run {
-                end: i,
-                length: n,
-                why: why,
-                escaped: n < i - p,
-            };
+        match unit_in(s, i, quoted, fresh, d, e) {
+            Ok(u) => {
+                i += u.width;
+                n += u.count as usize;
+                fresh = u.bytes == 10;
+            }
+            Err(why) => {
+                return Run {
+                    end: i,
+                    length: n,
+                    why: why,
+                    escaped: n < i - p,
+                };
+            }
         }
-        i += w;
-        n += u.count as usize;
-        fresh = u.bytes == 10;
     }
 }
 
@@ -321,11 +304,9 @@ fn put(buf: &mut [u8], at: usize, bytes: u32, count: u8)
     ensures { buf.new ≡ paste buf.old at (unpacked count bytes) count }
 {
     let mut left = bytes;
-    let mut k = 0;
-    while k < count {
-        buf[at + k as usize] = (left % 256) as u8;
+    for k in 0..count as usize {
+        buf[at + k] = (left % 256) as u8;
         left = left / 256;
-        k += 1;
     }
 }
 
@@ -352,7 +333,7 @@ pub fn write(
     let mut i = p;
     let mut j = 0;
     while i < end {
-        let u = unit_at(s, i, quoted);
+        let u = unit_at(s, i, quoted).unwrap();
         put(buf, at + j, u.bytes, u.count);
         i += u.width;
         j += u.count as usize;

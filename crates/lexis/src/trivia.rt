@@ -1,31 +1,22 @@
 // Trivia: space, line endings and comments.
-ghost use Rattle.std.specs.Prelude.{◌≡◌, true, false, ◌+◌, ◌≤◌, length, drop};
+ghost use Rattle.std.specs.Prelude.{◌≡◌, ℕ, true, false, ◌+◌, ◌≤◌, length, drop};
 ghost use Rattle.lexis.specs.Bytes.{byte_at};
-ghost use Rattle.lexis.specs.Trivia.{block, opens_comment, Ending, Placed, Itemed, Gapped, Lined, Commented, Stopped};
+ghost use Rattle.lexis.specs.Trivia.{block, opens_comment, gap_of, stop_of, comment_of, Ending, Placed, Itemed, Gapped, Lined, Commented, Stopped};
 
 use crate::bytes::{byte_at, is_space, one_at};
 
-// Where trivia ends, or where the block comment starts that nothing closes.
-#[derive(Clone, Copy, Drop)]
-pub struct Gap {
+// A block comment that nothing closes, where it starts.
+#[derive(Clone, Copy, Debug, PartialEq, Eq, Drop)]
+pub struct Unclosed {
     pub at: usize,
-    pub unclosed: bool,
 }
 
-// What ends an object's item, and where.
-#[derive(Clone, Copy, Drop)]
-pub struct Stop {
-    pub at: usize,
-    pub how: u8,
-}
-
-impl Stop {
-    // Nothing ends the item at this place.
-    pub const NONE: u8 = 0;
-    // The place is behind what ends it.
-    pub const END: u8 = 1;
-    // A line comment stands here that the source's end cuts; the place is that end.
-    pub const CUT: u8 = 2;
+// What ends an object's item: nothing here; the place behind what ends it; or a line comment that the source's end cuts, and that end.
+#[derive(Clone, Copy, Debug, PartialEq, Eq, Drop)]
+pub enum Stop {
+    Nothing,
+    End(usize),
+    Cut(usize),
 }
 
 // The width of the line ending at p, where b stands; 0 where there is none.
@@ -54,123 +45,78 @@ pub fn line_ending(s: &[u8], p: usize) -> usize
 fn lf_at(s: &[u8], p: usize) -> usize
     ensures { Lined s.now p result }
 {
-    let mut i = p;
-    while i < s.len() {
+    for i in p..s.len() {
         if s[i] == 10 {
             return i;
         }
-        i += 1;
     }
-    i
+    p.max(s.len())
 }
 
-// The line comment whose text goes on at p: behind its line ending, or at the source's end, which cuts it.
-fn line_comment(s: &[u8], p: usize) -> Stop
-    ensures { Commented s.now p result }
+// The line comment whose text goes on at p: the place behind its line ending; or the source's end, which cuts it.
+fn line_comment(s: &[u8], p: usize) -> Result<usize, usize>
+    ensures { Commented s.now p (comment_of result) }
 {
     let i = lf_at(s, p);
-    if i < s.len() {
-        return Stop {
-            at: i + 1,
-            how: Stop::END,
-        };
-    }
-    Stop {
-        at: i,
-        how: Stop::CUT,
-    }
+    if i < s.len() { Ok(i + 1) } else { Err(i) }
 }
 
 // The block comment whose `/*` is at p. Its slash is looked for, then the `*` before it: one look and one bound for most bytes.
-fn block_comment(s: &[u8], p: usize) -> Gap
+fn block_comment(s: &[u8], p: usize) -> Result<usize, Unclosed>
     requires { p + 2 ≤ length s.now }
-    ensures { Placed (block (drop (p + 2) s.now)) s.now p result }
+    ensures { Placed (block (drop (p + 2) s.now)) s.now p (gap_of result) }
 {
-    let mut i = p + 3;
-    while i < s.len() {
-        if s[i] == 47 {
-            if s[i - 1] == 42 {
-                return Gap {
-                    at: i + 1,
-                    unclosed: false,
-                };
-            }
+    for i in p + 3..s.len() {
+        if s[i] == 47 && s[i - 1] == 42 {
+            return Ok(i + 1);
         }
-        i += 1;
     }
-    Gap {
-        at: p,
-        unclosed: true,
-    }
+    Err(Unclosed { at: p })
 }
 
 // What starts with the slash at p: a block comment, a line comment where `lines` allows it, or no trivia.
-fn slash(s: &[u8], p: usize, lines: bool) -> Gap
+fn slash(s: &[u8], p: usize, lines: bool) -> Result<usize, Unclosed>
     requires { byte_at s.now p ≡ 47 }
-    ensures { Itemed lines s.now p result }
+    ensures { Itemed lines s.now p (gap_of result) }
 {
     let c = byte_at(s, p + 1);
     if c == 42 {
         return block_comment(s, p);
     }
     if c != 47 {
-        return Gap {
-            at: p,
-            unclosed: false,
-        };
+        return Ok(p);
     }
     if !lines {
-        return Gap {
-            at: p,
-            unclosed: false,
-        };
+        return Ok(p);
     }
-    let e = line_comment(s, p + 2);
-    Gap {
-        at: e.at,
-        unclosed: false,
-    }
+    let (Ok(e) | Err(e)) = line_comment(s, p + 2);
+    Ok(e)
 }
 
-// The one item of trivia at p; p itself where none stands.
-fn item_at(s: &[u8], p: usize, lines: bool) -> Gap
-    ensures { Itemed lines s.now p result }
+// The place behind the one item of trivia at p; p itself where none stands.
+fn item_at(s: &[u8], p: usize, lines: bool) -> Result<usize, Unclosed>
+    ensures { Itemed lines s.now p (gap_of result) }
 {
     let b = byte_at(s, p);
     // letters, digits and most marks are behind the slash: no trivia starts with one
     if 47 < b {
-        return Gap {
-            at: p,
-            unclosed: false,
-        };
+        return Ok(p);
     }
     if is_space(b) {
-        return Gap {
-            at: p + 1,
-            unclosed: false,
-        };
+        return Ok(p + 1);
     }
     if b == 47 {
         return slash(s, p, lines);
     }
     if !lines {
-        return Gap {
-            at: p,
-            unclosed: false,
-        };
+        return Ok(p);
     }
     if b == 35 {
-        let e = line_comment(s, p + 1);
-        return Gap {
-            at: e.at,
-            unclosed: false,
-        };
+        let (Ok(e) | Err(e)) = line_comment(s, p + 1);
+        return Ok(e);
     }
     let w = ending_of(s, p, b);
-    Gap {
-        at: p + w,
-        unclosed: false,
-    }
+    Ok(p + w)
 }
 
 // Whether a comment can start with b: a `#` or a slash.
@@ -182,8 +128,8 @@ fn opens(b: u16) -> bool
 
 // Where the trivia from p ends, or the place of an unclosed block comment in it; `lines` says whether line endings count. Space, and a byte that
 // starts no trivia, are looked at here: what is left for item_at is rare, and its two calls keep its code out of this loop.
-pub fn skip(s: &[u8], p: usize, lines: bool) -> Gap
-    ensures { Gapped lines s.now p result }
+pub fn skip(s: &[u8], p: usize, lines: bool) -> Result<usize, Unclosed>
+    ensures { Gapped lines s.now p (gap_of result) }
 {
     let mut i = p;
     loop {
@@ -194,72 +140,67 @@ pub fn skip(s: &[u8], p: usize, lines: bool) -> Gap
         }
         if 32 < b {
             if !opens(b) {
-                return Gap {
-                    at: i,
-                    unclosed: false,
-                };
+                return Ok(i);
             }
-            let c = item_at(s, i, lines);
-            if c.at == i {
-                return c;
+            let c = item_at(s, i, lines)?;
+            if c == i {
+                return Ok(c);
             }
-            i = c.at;
+            i = c;
             continue;
         }
-        let g = item_at(s, i, lines);
-        if g.at == i {
-            return g;
+        let g = item_at(s, i, lines)?;
+        if g == i {
+            return Ok(g);
         }
-        i = g.at;
+        i = g;
     }
 }
 
 // Where the same-line space from p ends.
-pub fn skip_line(s: &[u8], p: usize) -> Gap
-    ensures { Gapped false s.now p result }
+pub fn skip_line(s: &[u8], p: usize) -> Result<usize, Unclosed>
+    ensures { Gapped false s.now p (gap_of result) }
 {
     skip(s, p, false)
 }
 
 // Where any trivia from p ends.
-pub fn skip_any(s: &[u8], p: usize) -> Gap
-    ensures { Gapped true s.now p result }
+pub fn skip_any(s: &[u8], p: usize) -> Result<usize, Unclosed>
+    ensures { Gapped true s.now p (gap_of result) }
 {
     skip(s, p, true)
 }
 
+// The line comment whose text goes on at p, as what ends an item.
+fn comment_stop(s: &[u8], p: usize) -> Stop
+    ensures { (q : ℕ) → Commented s.now p (stop_of q result) }
+{
+    match line_comment(s, p) {
+        Ok(e) => Stop::End(e),
+        Err(e) => Stop::Cut(e),
+    }
+}
+
 // What ends an object's item at p: a comma, a line ending, or a line comment with its ending.
 pub fn terminator(s: &[u8], p: usize) -> Stop
-    ensures { Stopped s.now p result }
+    ensures { Stopped s.now p (stop_of p result) }
 {
     let b = byte_at(s, p);
     if b == 44 {
-        return Stop {
-            at: p + 1,
-            how: Stop::END,
-        };
+        return Stop::End(p + 1);
     }
     if b == 35 {
-        return line_comment(s, p + 1);
+        return comment_stop(s, p + 1);
     }
     if b == 47 {
         if one_at(s, p + 1, 47) {
-            return line_comment(s, p + 2);
+            return comment_stop(s, p + 2);
         }
-        return Stop {
-            at: p,
-            how: Stop::NONE,
-        };
+        return Stop::Nothing;
     }
     let w = ending_of(s, p, b);
     if w != 0 {
-        return Stop {
-            at: p + w,
-            how: Stop::END,
-        };
+        return Stop::End(p + w);
     }
-    Stop {
-        at: p,
-        how: Stop::NONE,
-    }
+    Stop::Nothing
 }

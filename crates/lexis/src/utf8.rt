@@ -1,46 +1,47 @@
 // Well-formed UTF-8 (Unicode, Table 3-7).
-ghost use Rattle.std.specs.Prelude.{◌≡◌, ◌+◌, ◌≤◌, ◌<◌, max, length, take, drop};
-ghost use Rattle.lexis.specs.Utf8.{Wide, behind_of, greatest, ascii_block, FirstBad};
+ghost use Rattle.std.specs.Prelude.{◌≡◌, ◌+◌, ◌≤◌, ◌<◌, length, take, drop};
+ghost use Rattle.lexis.specs.Bytes.{nonzero};
+ghost use Rattle.lexis.specs.Utf8.{behind_of, sequence, greatest, ascii_block, FirstBad};
 
 use crate::bytes::{byte_at, within};
 
 // How many bytes are looked at in one go.
 const BLOCK: usize = 64;
 
-// The width of a sequence by what stands from p on, behind its first byte: a byte from low to high, then n - 1 tails. 0 where another byte stands.
-fn behind(s: &[u8], p: usize, low: u16, high: u16, n: usize) -> usize
+// The width of a sequence by what stands from p on, behind its first byte: a byte from low to high, then n - 1 tails.
+fn behind(s: &[u8], p: usize, low: u16, high: u16, n: usize) -> Option<usize>
     requires { (p ≤ length s.now) × (high < 256) × (1 ≤ n) × (n ≤ 3) }
-    ensures { result ≡ behind_of (drop p s.now) low high n }
+    ensures { result ≡ nonzero (behind_of (drop p s.now) low high n) }
 {
     if !within(byte_at(s, p), low, high) {
-        return 0;
+        return None;
     }
     if n == 1 {
-        return 2;
+        return Some(2);
     }
     if !within(byte_at(s, p + 1), 0x80, 0xBF) {
-        return 0;
+        return None;
     }
     if n == 2 {
-        return 3;
+        return Some(3);
     }
     if within(byte_at(s, p + 2), 0x80, 0xBF) {
-        4
+        Some(4)
     } else {
-        0
+        None
     }
 }
 
-// The width of the well-formed sequence at p; 0 where none stands.
-fn width(s: &[u8], p: usize) -> usize
-    ensures { Wide s.now p result }
+// The width of the well-formed sequence at p.
+fn width(s: &[u8], p: usize) -> Option<usize>
+    ensures { result ≡ nonzero (sequence (drop p s.now)) }
 {
     let b = byte_at(s, p);
     if b < 0x80 {
-        return 1;
+        return Some(1);
     }
     if b < 0xC2 {
-        return 0;
+        return None;
     }
     if b < 0xE0 {
         return behind(s, p + 1, 0x80, 0xBF, 1);
@@ -63,14 +64,7 @@ fn width(s: &[u8], p: usize) -> usize
     if b == 0xF4 {
         return behind(s, p + 1, 0x80, 0x8F, 3);
     }
-    0
-}
-
-// The greater of two bytes.
-fn higher(a: u8, b: u8) -> u8
-    ensures { result ≡ max a b }
-{
-    if a < b { b } else { a }
+    None
 }
 
 // The greatest byte of the block at p. A loop without a way out in its middle: it is compiled to a few wide operations.
@@ -79,10 +73,8 @@ fn highest(s: &[u8], p: usize) -> u8
     ensures { result ≡ greatest (take 64 (drop p s.now)) }
 {
     let mut m: u8 = 0;
-    let mut i = 0;
-    while i < BLOCK {
-        m = higher(m, s[p + i]);
-        i += 1;
+    for b in &s[p..p + BLOCK] {
+        m = m.max(*b);
     }
     m
 }
@@ -105,14 +97,11 @@ pub fn first_bad(s: &[u8]) -> usize
             i += BLOCK;
             continue;
         }
-        let mut n = 0;
-        while n < BLOCK {
-            let w = width(s, i);
-            if w == 0 {
+        for _n in 0..BLOCK {
+            let Some(w) = width(s, i) else {
                 return i;
-            }
+            };
             i += w;
-            n += 1;
         }
     }
 }

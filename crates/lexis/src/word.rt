@@ -1,9 +1,21 @@
 // Identifiers, and the words that have a meaning.
 ghost use Rattle.std.specs.Prelude.{◌≡◌};
 ghost use Rattle.lexis.specs.Bytes.{Ran};
-ghost use Rattle.lexis.specs.Word.{ident_to, word_to, constant_at, ends_for, for_to, in', if'};
+ghost use Rattle.lexis.specs.Word.{ident_to, word_to, constant_at, kind_or_none, ends_for, for_to, in', if'};
 
 use crate::bytes::{all_at, byte_at, is_rest, is_start, within};
+
+// The kinds of the words that are constants.
+#[derive(Clone, Copy, Drop)]
+pub struct Constant;
+
+impl Constant {
+    pub const NULL: u16 = 1;
+
+    pub const TRUE: u16 = 2;
+
+    pub const FALSE: u16 = 3;
+}
 
 // The end of the identifier at p; p where none starts. Most words are made of small letters, so one test tells of most bytes.
 pub fn ident_end(s: &[u8], p: usize) -> usize
@@ -13,19 +25,13 @@ pub fn ident_end(s: &[u8], p: usize) -> usize
     if !is_start(b) {
         return p;
     }
-    let mut i = p + 1;
-    while i < s.len() {
+    for i in p + 1..s.len() {
         let c = byte_at(s, i);
-        if within(c, 97, 122) {
-            i += 1;
-            continue;
-        }
-        if !is_rest(c) {
+        if !within(c, 97, 122) && !is_rest(c) {
             return i;
         }
-        i += 1;
     }
-    i
+    s.len()
 }
 
 // The end of the word w at p; p where the identifier there is another.
@@ -54,17 +60,17 @@ pub fn if_end(s: &[u8], p: usize) -> usize
     word_end(s, p, b"if")
 }
 
-// The kind of the constant that stands at p: 1 null, 2 true, 3 false; 0 for none.
-pub fn constant_at(s: &[u8], p: usize) -> u16
-    ensures { result ≡ constant_at s.now p }
+// The kind of the constant that stands at p.
+pub fn constant_at(s: &[u8], p: usize) -> Option<u16>
+    ensures { result ≡ kind_or_none (constant_at s.now p) }
 {
     if word_end(s, p, b"null") != p {
-        return 1;
+        return Some(Constant::NULL);
     }
     if word_end(s, p, b"true") != p {
-        return 2;
+        return Some(Constant::TRUE);
     }
-    if word_end(s, p, b"false") != p { 3 } else { 0 }
+    (word_end(s, p, b"false") != p).then_some(Constant::FALSE)
 }
 
 // Whether b, right behind a `for`, commits to a for-expression.

@@ -3,11 +3,16 @@
 //
 // A case is 72 bytes: the numbers and the text bytes that are lent, four bytes each and the lowest first, and four parts of the source. A part is
 // 16 bytes: how often it comes (two bytes), its length, and its bytes.
+ghost use Rattle.std.specs.Prelude.{◌≤◌, length};
+
 mod make;
 
 use std::io::{self, Write};
 
 const CASE: usize = 72;
+
+// The numbers of a case, before its parts.
+const HEAD: usize = 8;
 
 // So many bytes of cases at most.
 const CASES: usize = 65536;
@@ -27,16 +32,14 @@ fn one<W: Write>(
     source: &mut [u8],
     nodes: &mut [u16],
     text: &mut [u8],
-) -> io::Result<()> {
-    let n = make::source(case, source);
-    let numbers = make::least(make::numbers(case), nodes.len());
-    let bytes = make::least(make::bytes(case), text.len());
-    print::reading(
-        out,
-        &source[0..n],
-        &mut nodes[0..numbers],
-        &mut text[0..bytes],
-    )?;
+) -> io::Result<()>
+    requires { HEAD ≤ length case.now }
+{
+    let (head, parts) = case.split_at(HEAD);
+    let n = make::source(parts, source);
+    let numbers = make::numbers(head).min(nodes.len());
+    let bytes = make::bytes(head).min(text.len());
+    print::reading(out, &source[..n], &mut nodes[..numbers], &mut text[..bytes])?;
     Ok(())
 }
 

@@ -1,5 +1,10 @@
 // The source of a case.
-ghost use Rattle.std.specs.Prelude.{◌≤◌, length};
+ghost use Rattle.std.specs.Prelude.{◌<◌, ◌≤◌, length};
+
+use input::byte;
+
+// The bytes of a part.
+const PART: usize = 16;
 
 // Where a part has its length and its bytes.
 const LENGTH: usize = 2;
@@ -9,37 +14,26 @@ const BYTES: usize = 3;
 // How many bytes a part has at most.
 const MOST: usize = 13;
 
-pub fn least(a: usize, b: usize) -> usize
-    ensures { (result ≤ a) × (result ≤ b) }
+// Four bytes from a place on, the lowest first.
+fn four(b: &[u8], at: usize) -> usize
+    requires { at < 8 }
 {
-    if a < b { a } else { b }
+    u32::from_le_bytes([
+        byte(b, at),
+        byte(b, at + 1),
+        byte(b, at + 2),
+        byte(b, at + 3),
+    ]) as usize
 }
 
-// The byte at k; 0 past the end.
-fn byte(b: &[u8], k: usize) -> u8 {
-    if k < b.len() { b[k] } else { 0 }
-}
-
-fn number(b: &[u8], k: usize) -> usize {
-    wide(byte(b, k))
-}
-
-fn wide(b: u8) -> usize {
-    b as usize
-}
-
-fn two(b: &[u8], low: usize, high: usize) -> usize {
-    number(b, low) | number(b, high) << 8
-}
-
-// How many numbers are lent: the first four bytes, the lowest first.
+// How many numbers are lent: the first four bytes.
 pub fn numbers(case: &[u8]) -> usize {
-    two(case, 0, 1) | two(case, 2, 3) << 16
+    four(case, 0)
 }
 
-// How many text bytes.
+// How many text bytes: the next four.
 pub fn bytes(case: &[u8]) -> usize {
-    two(case, 4, 5) | two(case, 6, 7) << 16
+    four(case, 4)
 }
 
 // Puts the bytes of a part at a place, as far as there is room, and gives back the place behind them.
@@ -47,16 +41,15 @@ fn once(part: &[u8], source: &mut [u8], from: usize) -> usize
     requires { from ≤ length source.old }
     ensures { result ≤ length source.new }
 {
-    let n = least(number(part, LENGTH), MOST);
-    let mut at = from;
-    for i in 0..n {
-        if source.len() <= at {
-            return at;
-        }
-        source[at] = byte(part, BYTES + i);
-        at += 1;
+    let most = MOST.min(source.len() - from);
+    let n = usize::from(byte(part, LENGTH)).min(most);
+    for (to, b) in source[from..from + n]
+        .iter_mut()
+        .zip(part.iter().skip(BYTES))
+    {
+        *to = *b;
     }
-    at
+    from + n
 }
 
 // The same as often as the part says.
@@ -65,7 +58,7 @@ fn times(part: &[u8], source: &mut [u8], from: usize) -> usize
     ensures { result ≤ length source.new }
 {
     let mut at = from;
-    for _ in 0..two(part, 0, 1) {
+    for _ in 0..u16::from_le_bytes([byte(part, 0), byte(part, 1)]) {
         at = once(part, source, at);
     }
     at
@@ -75,11 +68,9 @@ fn times(part: &[u8], source: &mut [u8], from: usize) -> usize
 pub fn source(case: &[u8], room: &mut [u8]) -> usize
     ensures { result ≤ length room.new }
 {
-    if case.len() < 72 {
-        return 0;
+    let mut at = 0;
+    for part in case.chunks_exact(PART) {
+        at = times(part, room, at);
     }
-    let a = times(&case[8..24], room, 0);
-    let b = times(&case[24..40], room, a);
-    let c = times(&case[40..56], room, b);
-    times(&case[56..72], room, c)
+    at
 }

@@ -9,71 +9,33 @@ use std::io::{self, Write};
 // The numbers of a record.
 const WIDTH: usize = 7;
 
-pub fn line<W: Write>(out: &mut W) -> io::Result<()> {
-    out.write_all(b"\n")
-}
-
-fn number<W: Write>(out: &mut W, n: usize) -> io::Result<()> {
-    write!(out, "{n}")
-}
-
-fn wide(n: u16) -> usize {
-    n as usize
-}
-
-// A number that is not the first of its line.
-fn next<W: Write>(out: &mut W, n: usize) -> io::Result<()> {
-    out.write_all(b" ")?;
-    number(out, n)
-}
-
-// The first line: the kind, the place, and how many records and text bytes there are.
-fn answer<W: Write>(
-    out: &mut W,
-    kind: u8,
-    place: usize,
-    nodes: usize,
-    text: usize,
-) -> io::Result<()> {
-    number(out, kind as usize)?;
-    next(out, place)?;
-    next(out, nodes)?;
-    next(out, text)?;
-    line(out)
-}
-
 // After the number at i of a table: its line goes on, or ends with the record.
 fn after<W: Write>(out: &mut W, i: usize) -> io::Result<()> {
     if i % WIDTH == WIDTH - 1 {
-        line(out)
+        writeln!(out)
     } else {
-        out.write_all(b" ")
+        write!(out, " ")
     }
 }
 
 // A line for each record.
 fn records<W: Write>(out: &mut W, b: &[u16]) -> io::Result<()> {
     for (i, n) in b.iter().enumerate() {
-        number(out, wide(*n))?;
+        write!(out, "{n}")?;
         after(out, i)?;
     }
     Ok(())
 }
 
-// Two digits.
-fn hex<W: Write>(out: &mut W, b: u8) -> io::Result<()> {
-    write!(out, "{b:02x}")
-}
-
 // Two hexadecimal digits for each byte, and the end of the line.
 pub fn bytes<W: Write>(out: &mut W, b: &[u8]) -> io::Result<()> {
     for x in b {
-        hex(out, *x)?;
+        write!(out, "{x:02x}")?;
     }
-    line(out)
+    writeln!(out)
 }
 
-// Reads a source and prints the answer, then a line for each record. Gives back how many text bytes there are; a refusal has none.
+// Reads a source and prints the answer's kind, its place, and how many records and text bytes there are, then a line for each record. Gives back how many text bytes there are; a refusal has none.
 // An error is one that `out` gave; the lent room is as `read` left it, then too.
 pub fn reading<W: Write>(
     out: &mut W,
@@ -85,7 +47,7 @@ pub fn reading<W: Write>(
     ensures left { (a : Answer) × Reads source.now nodes.old nodes.new text.old text.new a }
 {
     let a = reader::read(source, nodes, text);
-    answer(out, a.kind, a.place, a.nodes, a.text)?;
+    writeln!(out, "{} {} {} {}", a.kind, a.place, a.nodes, a.text)?;
     if a.kind == 0 {
         let end = a.nodes * WIDTH;
         records(out, &nodes[0..end])?;

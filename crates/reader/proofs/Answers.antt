@@ -7,7 +7,6 @@ use mathlib.Core.List.{List, [], ◌∷◌, ◌++◌, append-nil, append_assoc}
 use native.Mathlib.Omega.{arith}
 use lib.ListN.{length, length-append}
 use lib.Dec.{eqb}
-use Rattle.reader.specs.declared.Step.{Step}
 use Rattle.engine.specs.Base.{Outcome, ok, halt, stuck, Rec, Tree, Trees, node, cons, rec_of, size, sizes}
 use Rattle.engine.specs.BaseLaws.{unless_lt}
 use Rattle.engine.specs.Engine.{Body, Fits, FailIn, FailAt}
@@ -21,7 +20,7 @@ use Rattle.grammar.specs.Layouts.{Layout, layout_of}
 use Rattle.grammar.specs.Hcl.{hcl, pick_at, follow_at}
 use Rattle.grammar.specs.Table.{Record, record_of, own, records_of, records_ofs, texts_of, texts_ofs, total}
 use Rattle.reader.specs.Buffer.{put_at, lay, write}
-use Rattle.reader.specs.Said.{step_of, Climbs, Heads, Good, told_as, Kept, Said, Makes, made_as, Made}
+use Rattle.reader.specs.Said.{Step, step_of, Climbs, Heads, Good, told_as, Kept, Said, Makes, made_as, Made}
 use Rattle.reader.proofs.Lays.{lay_none, lay_join, lay_one, write_none, write_join, total_append, lengths_records, length_records, texts_same, records_same, own_none, span_none}
 use Rattle.reader.proofs.Stages.{Stage}
 

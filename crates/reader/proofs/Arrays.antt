@@ -9,8 +9,6 @@ use native.Mathlib.Omega.{arith}
 use lib.ListN.{length}
 use lib.Dec.{eqb}
 use borrow.Author.Tests.{eqb-true, eq-eqb}
-use Rattle.reader.specs.declared.Step.{Step}
-use Rattle.grammar.specs.declared.moves.Went.{Went}
 use Rattle.lexis.specs.Bytes.{byte_at, stands, is_foreign}
 use Rattle.lexis.specs.RunLaws.{stands_one, stands_inside}
 use Rattle.lexis.specs.RunLaws as runs
@@ -21,10 +19,10 @@ use Rattle.grammar.specs.Layouts.{Layout, layouts, layout_of, inside, space, pas
 use Rattle.grammar.specs.Hcl.{under, pick_at}
 use Rattle.grammar.specs.Table.{record_of}
 use Rattle.grammar.specs.Wants.{down_below}
-use Rattle.grammar.specs.Said.{went_of, Moved}
+use Rattle.grammar.specs.Said.{Went, went_of, Moved}
 use Rattle.grammar.specs.TextLaws as text
 use Rattle.reader.specs.Buffer.{put_at}
-use Rattle.reader.specs.Said.{step_of, Climbs, Kept, Any, under_any, any_before, Said, SaidMade, Asked, Closing}
+use Rattle.reader.specs.Said.{Step, step_of, Climbs, Kept, Any, under_any, any_before, Said, SaidMade, Asked, Closing}
 use Rattle.reader.specs.Bare.{Halts, Beyond}
 use Rattle.reader.proofs.Answers.{good}
 use Rattle.reader.proofs.Stages.{stage_move, stage_yes, stage_no, stage_end, stage_rep, stage_rep_no}

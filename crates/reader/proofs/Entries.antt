@@ -19,9 +19,8 @@ use Rattle.grammar.specs.Layouts.{key, value, same_line, Layout, layouts, layout
 use Rattle.grammar.specs.Hcl.{hcl, under, bare, pick_at}
 use Rattle.grammar.proofs.Sane.{sane}
 use Rattle.grammar.specs.Table.{record_of}
-use Rattle.reader.specs.declared.Step.{Step}
 use Rattle.reader.specs.Buffer.{put_at}
-use Rattle.reader.specs.Said.{step_of, Climbs, Good, Kept, Said, SaidItem, One}
+use Rattle.reader.specs.Said.{Step, step_of, Climbs, Good, Kept, Said, SaidItem, One}
 use Rattle.reader.specs.Items.{met_in, bared, equals_step, colon_step, Signed, equals, colon, neither}
 use Rattle.reader.proofs.Stages.{put_of, Stage, stage_start, stage_take, stage_move, stage_yes, stage_no, stage_stop, stage_kid, stage_kid_no}
 use Rattle.reader.proofs.Answers.{good, from_good, refused, pass, done, Done, stage_made, done_head, head_no, head_whole, head_whole_no, kept_join}

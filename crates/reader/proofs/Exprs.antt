@@ -8,7 +8,6 @@ use native.Mathlib.Omega.{arith}
 use lib.ListN.{length}
 use lib.Dec.{eqb, leb, leb→le, T}
 use borrow.Author.Tests.{ne_eqb, eqb-true, eqb-false}
-use Rattle.reader.specs.declared.Step.{Step}
 use Rattle.engine.specs.Base.{Outcome, ok, halt, stuck, Rec, Tree, has}
 use Rattle.engine.specs.BaseLaws.{has_all}
 use Rattle.engine.specs.Engine.{Body, FailIn, FailAt}
@@ -16,16 +15,15 @@ use Rattle.engine.specs.Layout.{grammar, after, level, fit, from}
 use Rattle.engine.specs.Way.{mid, Part, part_led, part_led_no, part_stop}
 use Rattle.engine.specs.Way as way
 use Rattle.lexis.specs.Bytes.{byte_at, is_foreign}
-use Rattle.grammar.specs.declared.moves.Went.{Went}
 use Rattle.grammar.specs.Kinds.{tight_of}
 use Rattle.grammar.specs.Moves.{Want, Under, an_expression, no, when, unexpected, refusal}
 use Rattle.grammar.specs.Layouts.{Layout, layout_of}
 use Rattle.grammar.specs.Hcl.{hcl, pick_at, follow_at, under}
 use Rattle.grammar.proofs.Sane.{sane}
 use Rattle.grammar.specs.Wants.{want_in}
-use Rattle.grammar.specs.Said.{kind_of, TermAt, Follow, went_of}
+use Rattle.grammar.specs.Said.{Went, kind_of, TermAt, Follow, went_of}
 use Rattle.grammar.specs.PickLaws.{Following, kind_some, pick_none, follow_kind, followed, followers}
-use Rattle.reader.specs.Said.{step_of, Climbs, Firsts, Terms, Heads, Good, Kept, Any, under_any, any_before, told_as, Said, Makes, made_as, Made, SaidMade}
+use Rattle.reader.specs.Said.{Step, step_of, Climbs, Firsts, Terms, Heads, Good, Kept, Any, under_any, any_before, told_as, Said, Makes, made_as, Made, SaidMade}
 use Rattle.reader.proofs.Answers.{good, from_good, refused, pass, done, done_head, head_no, head_whole, head_whole_no, fits_all, Turning, turned, turning_more, turning_no}
 
 -- ---- a production that stands first, as an answer
@@ -105,9 +103,6 @@ module _ {s : List ℕ} {left : ℕ} {lines : Bool} {i u p e₀ n₀ t₀ : ℕ}
     pub grows_more : eqb k 6 ≡ false → eqb k 9 ≡ false → r.kind ≡ 0 → Turning J s (under left lines an_expression) i u p e₀ n₀ t₀ b b'' x x'' r.end (n + r.count) (t + r.text)
     grows_more f g z = turning_more w under_all f g q tight (done m.made z) m.room m.spent m.high
 
-    pub grows_far : r.kind ≡ 0 → e < r.end
-    grows_far z = let d = done m.made z in omega (arith, d.count, m.room)
-
 -- ---- an expression
 
 abbrev pub Only : ℕ → ℕ → Type 0
@@ -147,9 +142,6 @@ module _ {s : List ℕ} {left : ℕ} {lines : Bool} {i u p j e₀ n₀ t₀ : �
 
       pub expr_more : r.kind ≡ 0 → Turning (Only j) s (under left lines an_expression) i u p e₀ n₀ t₀ b b'' x x'' r.end (n + r.count) (t + r.text)
       expr_more z = grows_more w is_next follower.want above m (ne_eqb f 6 follower.six) (ne_eqb f 9 follower.nine) z
-
-      pub expr_far : r.kind ≡ 0 → e < r.end
-      expr_far z = grows_far w is_next follower.want above m z
 
 -- ---- nothing that may start stands at p
 
@@ -231,6 +223,3 @@ module _ {s : List ℕ} {left : ℕ} {lines : Bool} {i u p e₀ n₀ t₀ : ℕ}
 
       pub term_more : r.kind ≡ 0 → Turning Low s (under left lines an_expression) i u p e₀ n₀ t₀ b b'' x x'' r.end (n + r.count) (t + r.text)
       term_more z = grows_more w is_part_lem refl (λ j low. omega arith) of_part refl refl z
-
-      pub term_far : r.kind ≡ 0 → e < r.end
-      term_far z = grows_far w is_part_lem refl (λ j low. omega arith) of_part z

@@ -8,8 +8,6 @@ use native.Mathlib.Omega.{arith}
 use lib.ListN.{length}
 use lib.Dec.{T}
 use borrow.Author.Tests.{ne_eqb, lt-leb}
-use Rattle.reader.specs.declared.Step.{Step}
-use Rattle.grammar.specs.declared.moves.Went.{Went}
 use Rattle.engine.specs.Base.{Outcome, ok, halt, stuck, Rec, Tree}
 use Rattle.engine.specs.Layout.{fin, move, kid}
 use Rattle.engine.specs.Way.{mid, part_led, part_led_no}
@@ -20,11 +18,11 @@ use Rattle.grammar.specs.Hcl.{hcl, pick_at, under, grows}
 use Rattle.grammar.specs.Table.{record_of}
 use Rattle.grammar.specs.Thrift.{spare}
 use Rattle.grammar.specs.Wants.{want_in, down_below}
-use Rattle.grammar.specs.Said.{Moved, went_of}
+use Rattle.grammar.specs.Said.{Went, Moved, went_of}
 use Rattle.grammar.specs.PickLaws.{Following, kind_some, pick_none, follow_kind}
 use Rattle.grammar.specs.Alone.{head_of, Alone, word, digits, HeadAt, NextAt}
 use Rattle.reader.specs.Buffer.{put_at}
-use Rattle.reader.specs.Said.{step_of, Climbs, Firsts, Terms, Heads, Kept, Any, under_any, any_before, One, Said, SaidMade, Asked, Laying, Closing}
+use Rattle.reader.specs.Said.{Step, step_of, Climbs, Firsts, Heads, Kept, Any, under_any, any_before, One, Said, SaidMade, Asked, Laying}
 use Rattle.reader.proofs.Answers.{good, from_good, refused, done, done_head, stage_made, made_no, fits_all}
 use Rattle.reader.proofs.Stages.{Stage, stage_start, stage_lay, stage_move, stage_no, stage_stop, stage_kid, stage_kid_no}
 use Rattle.reader.proofs.Laidings.{pass_made}
@@ -35,15 +33,6 @@ use Rattle.reader.proofs.Terms.{term_firm}
 
 pub said_as : {Z Y : Outcome ℕ (Tree ℕ) → Type 0} {s : List ℕ} {i u k p : ℕ} {b b' x x' y y' : List ℕ} {r : Step} → ((o : Outcome ℕ (Tree ℕ)) → Z o → Y o) → Said Z s i u k p b b' x x' y y' r → Said Y s i u k p b b' x x' y y' r
 said_as f w = record { out = w.out; gives = f w.out w.gives; told = w.told; room = w.room; spent = w.spent; high = w.high; kept = w.kept }
-
-term_first : (s : List ℕ) (a : Under) (p : ℕ) (o : Outcome ℕ (Tree ℕ)) → Terms s a p o → Firsts s a p o
-term_first s a p (ok t) h = h.0
-term_first s a p (halt x q) h = h
-term_first s a p stuck h = h
-
--- a unary operator's term
-pub first_term : {s : List ℕ} {a : Under} {i u k p : ℕ} {b b' x x' y y' : List ℕ} {r : Step} → Said (Terms s a p) s i u k p b b' x x' y y' r → Said (Firsts s a p) s i u k p b b' x x' y y' r
-first_term {s} {a} {p = p} w = said_as (term_first s a p) w
 
 pub head_first : (s : List ℕ) (a : Under) (k p : ℕ) → pick_at s a p ≡ some k → tight_of k ≡ 9 → (o : Outcome ℕ (Tree ℕ)) → Heads s a p o → Firsts s a p o
 head_first s a k p q tight (ok t) h = λ j low. part_led (hcl s) (fits_all s a k p j q (omega arith)) h
@@ -67,15 +56,6 @@ module _ {s : List ℕ} {lines : Bool} {p k e : ℕ} (h : HeadAt s p lines (head
   -- ---- a token alone
 
   module _ (far : e ≡ p → ⊥) {i u K : ℕ} {y : List ℕ} (asked : Asked s y i u K p) where
-    pub leaf_closing : Closing i 0 0 p e 0
-    leaf_closing = record {
-      few = omega (arith, asked.few, asked.inside, asked.small);
-      some = omega arith;
-      low = h.low;
-      room = omega (arith, h.low, far);
-      small = omega (arith, h.high, asked.inside, asked.small);
-    }
-
     module _ (left : ℕ) (b x : List ℕ) where
       abbrev Here : Under
       Here = under left lines an_expression
@@ -169,15 +149,6 @@ module _ {s : List ℕ} {lines : Bool} {p k e : ℕ} (h : NextAt s p lines (head
 
           pub grow_room : p + m.count + 1 ≤ m.end
           grow_room = omega (arith, whole.room)
-
-          pub grow_closing : Closing i m.count 0 start m.end before
-          grow_closing = record {
-            few = omega (arith, asked.few, asked.inside, asked.small);
-            some = omega arith;
-            low = omega (arith, lays.room, grow_room);
-            room = omega (arith, lays.room, grow_room);
-            small = omega (arith, w.high, asked.small);
-          }
 
           pub grow_ok : {r : Step} {b'' : List ℕ} {K' : ℕ} {v v' : List ℕ} → (r ≡ step_of 0 m.end (m.count + 1) m.text) × (b'' ≡ put_at b' (i + m.count) (record_of k 0 start m.end (before + m.count + 1) (0, 0))) → Kept K' v v'
               → SaidMade Any s (under_any k left lines) start any_before k (layout_of k) p i u before p K' b b'' x x' v v' r

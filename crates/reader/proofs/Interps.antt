@@ -5,8 +5,6 @@ use mathlib.Core.Bool.{Bool, true, false, cond}
 use mathlib.Core.List.{List, [], ◌∷◌}
 use native.Mathlib.Omega.{arith}
 use lib.ListN.{length}
-use Rattle.reader.specs.declared.Step.{Step}
-use Rattle.grammar.specs.declared.moves.Went.{Went}
 use Rattle.lexis.specs.Bytes.{stands}
 use Rattle.lexis.specs.RunLaws.{stands_inside}
 use Rattle.engine.specs.Layout.{fin, move, kid, fork}
@@ -15,10 +13,10 @@ use Rattle.grammar.specs.Moves.{an_expression, unexpected}
 use Rattle.grammar.specs.Layouts.{Layout, layouts, layout_of, inside, plain, past, strip_lay, interpolation_lay}
 use Rattle.grammar.specs.Hcl.{under}
 use Rattle.grammar.specs.Table.{record_of}
-use Rattle.grammar.specs.Said.{went_of, Moved}
+use Rattle.grammar.specs.Said.{Went, went_of, Moved}
 use Rattle.grammar.specs.TextLaws.{plain_yes, plain_no, unexpected_is}
 use Rattle.reader.specs.Buffer.{put_at}
-use Rattle.reader.specs.Said.{step_of, Climbs, Kept, Any, under_any, any_before, Said, SaidMade, Asked}
+use Rattle.reader.specs.Said.{Step, step_of, Climbs, Kept, Any, under_any, any_before, Said, SaidMade, Asked}
 use Rattle.reader.specs.Bare.{tilde_at}
 use Rattle.reader.proofs.Stages.{stage_move, stage_yes, stage_no}
 use Rattle.reader.proofs.Laids.{On}

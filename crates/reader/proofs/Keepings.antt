@@ -6,13 +6,7 @@ use mathlib.Core.List.{List, [], ◌∷◌, ◌++◌}
 use native.Mathlib.Omega.{arith}
 use lib.ListN.{take}
 use lib.Seq.{take-take}
-use borrow.Author.Tests.{ne_eqb}
-use Rattle.lexis.specs.Bytes.{byte_at, is_start}
-use Rattle.lexis.specs.RunLaws.{clash}
 use Rattle.lexis.specs.Keys.{among, same_key}
-use Rattle.index.specs.Mark.{WordTo}
-use Rattle.grammar.specs.declared.picks.Key.{Key}
-use Rattle.grammar.specs.Alone.{KeyAt}
 use Rattle.index.specs.Index.{starts, Inserted}
 use Rattle.index.specs.IndexLaws.{starts_kept}
 use Rattle.grammar.specs.Moves.{lone, lones}
@@ -20,7 +14,7 @@ use Rattle.reader.specs.Items.{met_in, Keeping, Keeps}
 use Rattle.reader.specs.Said.{Kept}
 
 -- a key that may not be compared, and one that may
-module _ {s y : List ℕ} {first top q m e : ℕ} (g : Keeping s y first top q m e) where
+module _ {s y : List ℕ} {first top q m : ℕ} {alone : Bool} (g : Keeping s y first top q m alone) where
   pub keep_none : lone s q ≡ false → Keeps s y y first top q top
   keep_none f = record { indexed = g.indexed; keys = rw f; next = rw f; same = refl; long = refl }
 
@@ -57,9 +51,3 @@ kept_less {k} {top} {y} {y'} low h = record { same = sym (take_less y') ∙ ap (
 
 pub kept_next : {s y y' : List ℕ} {k top q r : ℕ} → Keeps s y y' k top q r → Kept k y y'
 kept_next g = record { same = g.same; long = g.long }
-
--- a key that is a word, as its mark wants it
-pub word_marks : {s : List ℕ} {p : ℕ} {r : Key} → KeyAt s p r → ¬ (r.end ≡ p) → WordTo s p r.end
-word_marks {s} {p} h far =
-    let w = h.word far in
-    record { starts = w.starts; ends = w.ends ∙ rw (ne_eqb (byte_at s p) 34 (λ z. clash (sym w.starts ∙ ap is_start z))) }

@@ -7,9 +7,7 @@ use mathlib.Core.List.{List}
 use native.Mathlib.Omega.{arith}
 use lib.ListN.{length}
 use lib.Dec.{T}
-use Rattle.reader.specs.declared.Step.{Step}
 use Rattle.grammar.specs.declared.shape.Instr.{Instr}
-use Rattle.grammar.specs.declared.moves.Went.{Went}
 use Rattle.engine.specs.Base.{Outcome, ok, halt, stuck, Rec, Tree}
 use Rattle.engine.specs.BaseLaws.{size_pos}
 use Rattle.engine.specs.Engine.{FailIn}
@@ -23,9 +21,9 @@ use Rattle.grammar.specs.Table.{record_of}
 use Rattle.grammar.specs.Thrift.{spare, leads}
 use Rattle.grammar.specs.Wants.{want_in}
 use Rattle.grammar.specs.Programmed.{instructions}
-use Rattle.grammar.specs.Said.{Instructed, Walked}
+use Rattle.grammar.specs.Said.{Went, Instructed, Walked}
 use Rattle.reader.specs.Buffer.{put_at}
-use Rattle.reader.specs.Said.{step_of, Good, Kept, Any, under_any, any_before, told_as, Said, SaidMade, SaidSub}
+use Rattle.reader.specs.Said.{Step, step_of, Good, Kept, Any, under_any, any_before, told_as, Said, SaidMade, SaidSub}
 use Rattle.reader.proofs.Answers.{good, stage_made, made_no}
 use Rattle.reader.proofs.Ranks.{sub_rank, lead_rank}
 use Rattle.reader.proofs.Laids.{Turn, sort, turn_fin, turn_stop, turn_other, turn_on, turn_kid, turn_kid_no, turn_rep, turn_rep_no, turn_lead, turn_again, turn_within, turn_later}

@@ -7,7 +7,6 @@ use mathlib.Core.List.{List, [], ◌∷◌}
 use native.Mathlib.Omega.{arith}
 use lib.Dec.{eqb}
 use borrow.Author.Tests.{eqb-true, eqb-false, eq-eqb}
-use Rattle.reader.specs.declared.Step.{Step}
 use Rattle.lexis.specs.declared.string.Why.{Why}
 use Rattle.lexis.specs.declared.string.Why.TheVariants as why
 use Rattle.lexis.specs.declared.string.Run.{Run}
@@ -19,7 +18,7 @@ use Rattle.grammar.specs.Kinds.{tight_of}
 use Rattle.grammar.specs.Moves.{an_expression}
 use Rattle.grammar.specs.Hcl.{under, pick_at, is_template, is_broken}
 use Rattle.grammar.specs.Alone.{head_of, HeadAt}
-use Rattle.reader.specs.Said.{Firsts, Heads, Said, Primary, LeadAt}
+use Rattle.reader.specs.Said.{Step, Firsts, Heads, Said, Primary, LeadAt}
 use Rattle.reader.proofs.Terms.{term_picked, quote_by}
 use Rattle.reader.proofs.Firsts.{said_as, head_first, first_head}
 

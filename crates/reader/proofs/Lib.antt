@@ -1,5 +1,6 @@
 mod Lays
 mod Stages
+mod Views
 mod Answers
 mod Laids
 mod Ranks
@@ -27,6 +28,5 @@ mod Entries
 mod Keepings
 mod Nameds
 mod ObjectTurns
-mod Copies
+mod Seen
 mod Wholly
-mod Nodes

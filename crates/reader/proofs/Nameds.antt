@@ -1,25 +1,22 @@
 -- An item whose key is a word alone: the laws of any item, with what is known of such a key.
-use Prim.Native.Nat.{ℕ, zero, suc, ◌+◌, ◌≤◌}
+use Prim.Native.Nat.{ℕ, zero, suc, ◌+◌}
 use mathlib.Core.Path.{◌≡◌, refl, sym, ap, subst, ◌∙◌}
 use mathlib.Core.Bool.{Bool, true, false, cond, ◌&&◌}
 use mathlib.Core.List.{List, [], ◌∷◌}
 use native.Mathlib.Omega.{arith}
-use lib.ListN.{length}
 use lib.Dec.{eqb}
 use borrow.Author.Tests.{eq-eqb, ne_eqb}
-use Rattle.reader.specs.declared.Step.{Step}
-use Rattle.grammar.specs.declared.moves.Went.{Went}
 use Rattle.lexis.specs.Bytes.{stands}
 use Rattle.lexis.specs.Word.{constant_at}
 use Rattle.lexis.specs.RunLaws.{and_left}
 use Rattle.grammar.specs.Moves.{an_expression, behind_key}
 use Rattle.grammar.specs.Hcl.{under, bare}
 use Rattle.grammar.specs.Table.{record_of}
-use Rattle.grammar.specs.Said.{Moved, went}
+use Rattle.grammar.specs.Said.{Went, Moved, went}
 use Rattle.grammar.specs.Alone.{key_of, Word}
 use Rattle.reader.specs.Buffer.{put_at}
-use Rattle.reader.specs.Said.{step_of, Climbs, Said, SaidItem, Asked}
-use Rattle.reader.specs.Items.{met_in, is_bare, bared, equals_step, colon_step, Signed, Baring}
+use Rattle.reader.specs.Said.{Step, step_of, Climbs, Said, SaidItem, Asked}
+use Rattle.reader.specs.Items.{met_in, is_bare, bared, equals_step, colon_step, Signed}
 use Rattle.reader.proofs.Answers.{good, kept_same, turning_start}
 use Rattle.reader.proofs.Exprs.{expr_stop}
 use Rattle.reader.proofs.Firsts.{first_leaf}
@@ -28,21 +25,6 @@ use Rattle.reader.proofs.Signs.{signed_met, signed_equals, signed_colon}
 use Rattle.reader.proofs.Entries.{no_sign, no_space, no_value, item_done}
 
 module _ {s y : List ℕ} {i u K p k e q φ : ℕ} (w : Word s p (key_of k e q φ)) (asked : Asked s y i u K p) where
-  pub named_baring : Baring p e
-  named_baring = record { from = omega (arith, asked.inside, asked.small); to = omega (arith, w.low, w.high, asked.small) }
-
-  pub named_small : q + 1 ≤ 65535
-  named_small = omega (arith, w.high, asked.small)
-
-  pub named_far : p + 1 ≤ e
-  named_far = omega (arith, w.past)
-
-  pub named_low : e ≤ q
-  named_low = w.low
-
-  pub named_high : q + 1 ≤ length s
-  named_high = w.high
-
   -- the key as a term's record, which stands nowhere: its own is put at once
   abbrev Before : List ℕ → List ℕ
   Before b = put_at b (i + 0) (record_of k 0 p e (0 + 0 + 1) (0, 0))

@@ -7,8 +7,6 @@ use native.Mathlib.Omega.{arith}
 use lib.ListN.{length}
 use lib.Dec.{eqb}
 use borrow.Author.Tests.{eq-eqb}
-use Rattle.reader.specs.declared.Step.{Step}
-use Rattle.grammar.specs.declared.moves.Went.{Went}
 use Rattle.lexis.specs.Bytes.{byte_at, Ran}
 use Rattle.lexis.specs.Word.{ident_to}
 use Rattle.lexis.specs.RunLaws.{stands_one, inside}
@@ -16,10 +14,10 @@ use Rattle.engine.specs.Layout.{fin, move}
 use Rattle.grammar.specs.Moves.{ident, unexpected}
 use Rattle.grammar.specs.Layouts.{layouts, layout_of, ident_lay, dot_lay, space}
 use Rattle.grammar.specs.Table.{record_of}
-use Rattle.grammar.specs.Said.{went_of, Moved}
+use Rattle.grammar.specs.Said.{Went, went_of, Moved}
 use Rattle.grammar.specs.TextLaws.{plain_yes}
 use Rattle.reader.specs.Buffer.{put_at}
-use Rattle.reader.specs.Said.{step_of, under_any, Closing}
+use Rattle.reader.specs.Said.{Step, step_of, under_any, Closing}
 use Rattle.reader.specs.Bare.{Naming, SaidBare}
 use Rattle.reader.proofs.Answers.{kept_same}
 use Rattle.reader.proofs.Stages.{stage_move}

@@ -21,6 +21,7 @@ use Rattle.index.specs.Index.{Indexed}
 use Rattle.index.specs.Index as index
 use Rattle.index.specs.IndexLaws.{indexed_none}
 use Rattle.lexis.specs.RunLaws.{inside, next, clash, stands_one}
+use Rattle.std.specs.Prelude.{Option, None, Some, is_some}
 use Rattle.grammar.specs.declared.picks.Key.{Key}
 use Rattle.grammar.specs.Alone.{KeyAt}
 use Rattle.grammar.specs.Kinds.{Deep, Foreign, Unexpected}
@@ -28,9 +29,8 @@ use Rattle.grammar.specs.Moves.{Under, to, no, when, unexpected, skip, place, lo
 use Rattle.grammar.specs.Layouts.{Class, entry, Layout, layouts, layout_of, object_lay, opening, past, space}
 use Rattle.grammar.specs.Hcl.{hcl, under, pick_at, terms, starts}
 use Rattle.grammar.specs.Table.{record_of, records_of, records_ofs, texts_of, texts_ofs, total}
-use Rattle.reader.specs.declared.Step.{Step}
 use Rattle.reader.specs.Buffer.{put_at, lay, write}
-use Rattle.reader.specs.Said.{step_of, Climbs, Heads, Kept, Said, SaidItem, One}
+use Rattle.reader.specs.Said.{Step, step_of, Climbs, Heads, Kept, Said, SaidItem, One}
 use Rattle.reader.specs.Items.{met_in, behind_item, Keeping, Keeps}
 use Rattle.reader.proofs.Lays.{lay_none, lay_join, write_none, write_join, total_append, texts_join, records_join, lengths_records, texts_same, records_same}
 use Rattle.reader.proofs.Stages.{Stage, stage_start, stage_move, stage_yes, stage_no, stage_stop, stage_end}
@@ -104,6 +104,11 @@ stood s q h e = sym (stands_one 125 s q refl) ∙ sym h ∙ e
 
 pub close_room : (s : List ℕ) (q : ℕ) → eqb (byte_at s q) 125 ≡ true → q < length s
 close_room s q h = inside (λ x. eqb x 125) s q refl h
+
+-- a key that is a word may be compared
+word_alone : (s : List ℕ) (q : ℕ) (κ : Option Key) → KeyAt s q κ → is_some κ ≡ true → lone s q ≡ true
+word_alone s q None h e = clash (sym e)
+word_alone s q (Some κ) h e = h.alone
 
 -- ---- the object under way
 
@@ -222,13 +227,13 @@ module _ (s : List ℕ) (left : ℕ) (lines : Bool) (i u p : ℕ) where
 
       module _ (ok : m.kind ≡ 0) where
         -- there is room for its key
-        pub turn_keeping : {h : ℕ} {κ : Key} → length s ≤ 65535 → 4 * length s ≤ 3 * length y₀ → h ≡ mark_at s q → KeyAt s q κ → Keeping s y' k top q h κ.end
-        turn_keeping small wide e κ-at =
+        pub turn_keeping : {h : ℕ} (κ : Option Key) {word : Bool} → length s ≤ 65535 → 4 * length s ≤ 3 * length y₀ → h ≡ mark_at s q → KeyAt s q κ → word ≡ is_some κ → Keeping s y' k top q h word
+        turn_keeping κ small wide e κ-at f =
             record {
               indexed = still_indexed a.kept w.indexed;
               fits = record { room = omega (arith, keeps.long, w.few, a.long ok, a.high); few = omega (arith, w.few, w.high); small = omega (arith, w.high) };
               mark = e;
-              alone = λ far. (κ-at.word far).alone;
+              lone = λ g. word_alone s q κ κ-at (sym f ∙ g);
             }
 
         taken : Object b b'' x x'' rest_lay m.end (n + m.count) (t + m.text) 1

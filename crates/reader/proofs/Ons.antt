@@ -7,8 +7,6 @@ use native.Mathlib.Omega.{arith}
 use lib.ListN.{length}
 use lib.Dec.{leb}
 use borrow.Author.Tests.{eq-eqb, ne_eqb}
-use Rattle.reader.specs.declared.Step.{Step}
-use Rattle.grammar.specs.declared.moves.Went.{Went}
 use Rattle.lexis.specs.Bytes.{stands, Ran}
 use Rattle.lexis.specs.Word.{ident_to}
 use Rattle.engine.specs.Layout.{fin, move, kid}
@@ -19,10 +17,10 @@ use Rattle.grammar.specs.Hcl.{under}
 use Rattle.grammar.specs.Table.{record_of}
 use Rattle.grammar.specs.Thrift.{spare}
 use Rattle.grammar.specs.Wants.{down_below}
-use Rattle.grammar.specs.Said.{went_of}
+use Rattle.grammar.specs.Said.{Went, went_of}
 use Rattle.grammar.specs.TextLaws as text
 use Rattle.reader.specs.Buffer.{put_at}
-use Rattle.reader.specs.Said.{step_of, Climbs, Kept, Any, under_any, any_before, Said, SaidMade}
+use Rattle.reader.specs.Said.{Step, step_of, Climbs, Kept, Any, under_any, any_before, Said, SaidMade}
 use Rattle.reader.proofs.Answers.{good, stage_made, made_no}
 use Rattle.reader.proofs.Stages.{stage_start, stage_lay, stage_stop, stage_kid, stage_kid_no}
 use Rattle.reader.proofs.Laids.{On}

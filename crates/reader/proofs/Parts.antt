@@ -9,8 +9,6 @@ use native.Mathlib.Omega.{arith}
 use lib.ListN.{length}
 use lib.Dec.{eqb}
 use borrow.Author.Tests.{eqb-true, eq-eqb}
-use Rattle.reader.specs.declared.Step.{Step}
-use Rattle.grammar.specs.declared.moves.Went.{Went}
 use Rattle.lexis.specs.Bytes.{byte_at}
 use Rattle.engine.specs.Base.{choose}
 use Rattle.engine.specs.Layout.{fin, kid, rep}
@@ -19,11 +17,11 @@ use Rattle.grammar.specs.Layouts.{layouts, layout_of, portion, traversal_lay}
 use Rattle.grammar.specs.Hcl.{under, pick_at, portions}
 use Rattle.grammar.specs.Table.{record_of}
 use Rattle.grammar.specs.Wants.{down_below}
-use Rattle.grammar.specs.Said.{ChildOf, went_of, Moved, PartAt}
+use Rattle.grammar.specs.Said.{Went, ChildOf, went_of, Moved, PartAt}
 use Rattle.grammar.specs.PickLaws.{kind_some}
 use Rattle.grammar.specs.TextLaws as text
 use Rattle.reader.specs.Buffer.{put_at}
-use Rattle.reader.specs.Said.{step_of, Kept, Any, under_any, any_before, SaidMade, SaidSub, Asked, Laying, Closing}
+use Rattle.reader.specs.Said.{Step, step_of, Kept, Any, under_any, any_before, SaidMade, SaidSub, Asked, Laying, Closing}
 use Rattle.reader.specs.Bare.{SaidBare}
 use Rattle.reader.proofs.Answers.{good}
 use Rattle.reader.proofs.Stages.{stage_move, stage_kid, stage_kid_no, stage_rep, stage_rep_no, stage_end}
@@ -62,7 +60,7 @@ module _ (s : List ℕ) (p : ℕ) where
 
 -- a part is under what its traversal is under
 part_child : (left : ℕ) (lines : Bool) → ChildOf 10 left lines (record { left = left; lines = lines; bound = 8; want = 2 })
-part_child left lines = record { down = λ s w σ ks. refl; bound = refl; plain = refl; fewer = omega arith; small = λ _. omega arith; loose = λ _ e. absurd (omega arith) }
+part_child left lines = record { down = λ s w σ ks. refl; bound = refl; plain = refl; fewer = omega arith; small = λ _. omega arith; loose = λ _ e. absurd (omega arith); known = omega arith }
 
 module _ {s : List ℕ} {p k : ℕ} (at : PartAt s p k) {left : ℕ} {lines : Bool} {i u K : ℕ} where
   pub part_none : {b b' x x' y y' : List ℕ} {w : Went} {r : Step} → k ≡ 0 → w ≡ went_of (unexpected s p) → r ≡ step_of w.kind w.at 0 0 → p ≤ length s → Kept K y y' → SaidSub 10 left lines s i u K p b b' x x' y y' r

@@ -7,7 +7,6 @@ use mathlib.Core.Option.{some}
 use mathlib.Core.List.{List, [], ◌∷◌}
 use native.Mathlib.Omega.{arith}
 use lib.ListN.{length, drop}
-use Rattle.reader.specs.declared.Step.{Step}
 use Rattle.lexis.specs.declared.heredoc.Line.{Line}
 use Rattle.lexis.specs.declared.heredoc.Line.TheVariants as line
 use Rattle.lexis.specs.declared.string.Why.{Why}
@@ -30,7 +29,7 @@ use Rattle.grammar.specs.Hcl.{hcl, under, pick_at}
 use Rattle.grammar.proofs.Sane.{sane}
 use Rattle.grammar.specs.Table.{record_of}
 use Rattle.reader.specs.Buffer.{put_at}
-use Rattle.reader.specs.Said.{step_of, Asked, Closing, Climbs, Good, Kept, Makes, made_as, Made, SaidMade, Any, under_any, any_before, One, Texting}
+use Rattle.reader.specs.Said.{Step, step_of, Asked, Closing, Climbs, Good, Kept, Makes, made_as, Made, SaidMade, Any, under_any, any_before, One, Texting}
 use Rattle.reader.specs.Text.{step_from, Delimited, Ends, Piecing, Pieced}
 use Rattle.grammar.specs.UnitLaws.{is_line, closable, marks, foreign_within, run_none}
 use Rattle.grammar.specs.TextLaws.{more_dollar, more_not, close_by_lem, pick_dollar}

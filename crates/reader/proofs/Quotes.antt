@@ -1,4 +1,5 @@
 -- What stands first and holds text: strings, templates and heredocs.
+use mir.Val.{bool_byte}
 use Prim.Native.Nat.{ℕ, zero, suc, ◌+◌, ◌≤◌, ◌<◌}
 use mathlib.Core.Path.{◌≡◌, refl, sym, ap, subst, ◌∙◌}
 use mathlib.Core.Bool.{Bool, true, false, cond, ◌&&◌}
@@ -9,10 +10,8 @@ use native.Mathlib.Omega.{arith}
 use lib.ListN.{length}
 use lib.Dec.{eqb}
 use borrow.Author.Tests.{eqb-true, eq-eqb, ne_eqb}
-use Rattle.reader.specs.declared.Step.{Step}
-use Rattle.lexis.specs.declared.heredoc.Opener.{Opener}
 use Rattle.lexis.specs.Bytes.{byte_at, is_foreign}
-use Rattle.lexis.specs.Heredoc.{opener_word, opener_at, Opened}
+use Rattle.lexis.specs.Heredoc.{Opener, opener_word, opener_at, Opened}
 use Rattle.lexis.specs.RunLaws.{stands_one, stands_two, inside, and_left}
 use Rattle.engine.specs.Base.{Outcome, ok, halt, stuck, Rec, nil}
 use Rattle.engine.specs.Engine.{Body}
@@ -22,13 +21,21 @@ use Rattle.grammar.specs.Moves.{an_expression, Under, to, no, place, unexpected,
 use Rattle.grammar.specs.Kinds.{Foreign, Unexpected}
 use Rattle.grammar.specs.Layouts.{Layout, layouts, layout_of, plain, text_lay, template_lay, heredoc_lay}
 use Rattle.grammar.specs.Hcl.{hcl, under, pick_at}
-use Rattle.grammar.specs.declared.moves.Went.{Went}
-use Rattle.grammar.specs.Said.{went, went_of}
-use Rattle.reader.specs.Said.{step_of, Asked, Heads, Said, Kept, Makes, Made, SaidMade, One, Texting}
+use Rattle.grammar.specs.Said.{Went, went, went_of}
+use Rattle.reader.specs.Said.{Step, step_of, Asked, Heads, Said, Kept, Makes, Made, SaidMade, One, Texting}
 use Rattle.reader.specs.Text.{flag_of}
 use Rattle.grammar.specs.TextLaws.{pick_template, pick_heredoc, plain_yes, plain_no, quote_stands, unexpected_is, Worded, word_opened}
 use Rattle.reader.proofs.Answers.{from_good, refused, done, done_head, head_no, kept_same}
 use Rattle.reader.proofs.Pieces.{halted}
+
+-- the number of a dash
+pub flag_byte : (b : Bool) → bool_byte b ≡ flag_of b
+flag_byte true = refl
+flag_byte false = refl
+
+pub flag_few : (b : Bool) {r : ℕ} → r ≡ bool_byte b → r ≤ 255
+flag_few true e = omega arith
+flag_few false e = omega arith
 
 -- ---- a production that stands first, told
 

@@ -1,26 +1,26 @@
 -- What the functions round an object's items find.
 use Prim.Native.Nat.{ℕ, zero, suc, ◌+◌, ◌-◌, ◌≤◌, ◌<◌}
-use mathlib.Core.Path.{◌≡◌, refl, sym, ap, ◌∙◌}
+use mathlib.Core.Path.{◌≡◌, refl, sym, ap, subst, ◌∙◌}
 use mathlib.Core.Bool.{Bool, true, false, cond, not, ◌&&◌, ◌||◌, and-true, and-false}
 use mathlib.Core.List.{List, [], ◌∷◌}
 use native.Mathlib.Omega.{arith}
 use lib.ListN.{length, drop}
 use lib.Dec.{eqb}
 use borrow.Author.Tests.{eq-eqb, ne_eqb}
-use Rattle.lexis.specs.declared.trivia.Stop.{Stop}
-use Rattle.lexis.specs.declared.trivia.Gap.{Gap}
 use Rattle.lexis.specs.Bytes.{Byte, Ran, byte_at, begins, stands, is_start, is_foreign}
-use Rattle.lexis.specs.Trivia.{Gapped, Stopped, gap_to, stop, stop_at, stop_comment, line_comment, comment, ending, ends_line, starts_comment}
+use Rattle.lexis.specs.Trivia.{Stopping, Gap, Gapped, Stopped, gap_to, stop, stop_at, stop_comment, line_comment, comment, ending, ends_line, starts_comment}
 use Rattle.lexis.specs.Operator.{is_mark, equals_to}
 use Rattle.lexis.specs.Word.{constant_at}
-use Rattle.lexis.specs.RunLaws.{stands_one, stands_inside}
+use Rattle.lexis.specs.RunLaws.{clash, stands_one, stands_inside}
 use Rattle.lexis.specs.Keys.{key_to}
-use Rattle.grammar.specs.declared.moves.Went.{Went}
+use Rattle.std.specs.Prelude.{Option, Some}
+use Rattle.index.specs.Mark.{WordTo}
+use Rattle.grammar.specs.declared.picks.Key.{Key}
+use Rattle.grammar.specs.Alone.{Word, KeyAt}
 use Rattle.grammar.specs.Kinds.{Unexpected, Foreign}
 use Rattle.grammar.specs.Moves.{Step, to, no, then, when, unexpected, skip, stop_step, marks, behind_key}
-use Rattle.grammar.specs.Said.{went, went_of, Moved}
-use Rattle.reader.specs.declared.items.Sign.{Sign}
-use Rattle.reader.specs.Items.{met_in, behind_item, sign_step, equals_step, Signed, equals, colon, neither, Behind, SignedAt, is_bare, bared}
+use Rattle.grammar.specs.Said.{Went, went, went_of, Moved}
+use Rattle.reader.specs.Items.{Sign, met_in, behind_item, sign_step, equals_step, Signed, equals, colon, neither, Behind, SignedAt, is_bare, bared}
 
 -- ---- behind an item
 
@@ -60,7 +60,7 @@ module _ {s : List ℕ} {e : ℕ} {g : Went} (sp : Moved s e false g) where
     pub behind_brace : stands (125 ∷ []) s g.at ≡ true → Behind s e g
     behind_brace h = let f : eqb (byte_at s g.at) 125 ≡ true = sym (stands_one 125 s g.at refl) ∙ h in behind_yes z (rw (sp.good z, f)) sp.low sp.high
 
-    module _ {x : Stop} (h : stands (125 ∷ []) s g.at ≡ false) (st : Stopped s g.at x) where
+    module _ {x : Stopping} (h : stands (125 ∷ []) s g.at ≡ false) (st : Stopped s g.at x) where
       stop_here : behind_item s e ≡ then (stop_step s g.at x.how x) (skip s true)
       stop_here =
           let f : eqb (byte_at s g.at) 125 ≡ false = sym (stands_one 125 s g.at refl) ∙ h in
@@ -79,7 +79,7 @@ module _ {s : List ℕ} {e : ℕ} {g : Went} (sp : Moved s e false g) where
 
       pub behind_space : {r : Went} → ¬ (x.how ≡ 0) → ¬ (x.how ≡ 2) → Moved s x.at true r → Behind s e r
       behind_space {r} n m q =
-          let one : x.how ≡ 1 = omega (arith, stop_how g.at (drop g.at s), ap (λ (y : Stop). y.how) st.is) in
+          let one : x.how ≡ 1 = omega (arith, stop_how g.at (drop g.at s), ap (λ (y : Stopping). y.how) st.is) in
           let t : behind_item s e ≡ skip s true x.at = stop_here ∙ rw one in
           record {
             is = rw t q.is;
@@ -225,3 +225,11 @@ module _ {s : List ℕ} {p b : ℕ} (n : ℕ) (h : Byte s p b) where
         let e : eqb (constant_at s p) 0 ≡ true = rw (← k) (eq-eqb c 0 g) in
         let e' : is_start (byte_at s p) ≡ true = rw (← h.is) f in
         rw (eq-eqb n 1 one, e', e)
+
+-- ---- the mark of a key
+
+-- a key that is a word, as its mark wants it
+pub named_marks : {s : List ℕ} {p : ℕ} {o : Option Key} {r : Key} → o ≡ Some r → KeyAt s p o → WordTo s p r.end
+named_marks {s} {p} {r = r} e h =
+    let w : Word s p r = subst (KeyAt s p) e h in
+    record { starts = w.starts; ends = w.ends ∙ rw (ne_eqb (byte_at s p) 34 (λ z. clash (sym w.starts ∙ ap is_start z))) }

@@ -8,7 +8,6 @@ use native.Mathlib.Omega.{arith}
 use lib.ListN.{length}
 use lib.Dec.{eqb}
 use borrow.Author.Tests.{eq-eqb}
-use Rattle.reader.specs.declared.Step.{Step}
 use Rattle.lexis.specs.declared.string.Why.{Why}
 use Rattle.lexis.specs.declared.string.Why.TheVariants as why
 use Rattle.lexis.specs.declared.string.Run.{Run}
@@ -24,7 +23,7 @@ use Rattle.grammar.specs.Layouts.{Layout, layouts, string_lay}
 use Rattle.grammar.specs.Hcl.{hcl, under, pick_at}
 use Rattle.grammar.specs.Table.{record_of, span}
 use Rattle.reader.specs.Buffer.{put_at}
-use Rattle.reader.specs.Said.{step_of, Asked, Heads, Said}
+use Rattle.reader.specs.Said.{Step, step_of, Asked, Heads, Said}
 use Rattle.reader.specs.Text.{flag_of, step_from, Ends, Piecing, Quoting, SaidString}
 use Rattle.grammar.specs.TextLaws.{close_by_lem, run_yes, run_no, pick_string, plain_yes, quote_stands}
 use Rattle.reader.proofs.Lays.{lay_one}

@@ -1,28 +1,24 @@
 -- The answers of `sub` and `prim`, from those of the functions that they call.
-use Prim.Native.Nat.{ℕ, ◌%◌, ◌≤◌}
+use Prim.Native.Nat.{ℕ, ◌≤◌}
 use mathlib.Core.Path.{◌≡◌, refl, sym, ap, subst, subst₂, ◌∙◌}
-use mathlib.Core.Bool.{Bool, true, false, cond, ◌&&◌, ◌||◌}
+use mathlib.Core.Bool.{Bool, true, false, ◌&&◌, ◌||◌}
 use mathlib.Core.Option.{some}
 use mathlib.Core.List.{List, []}
 use native.Mathlib.Omega.{arith}
 use lib.ListN.{length}
-use lib.Dec.{eqb, leb, leb→le, T}
+use lib.Dec.{eqb, leb}
 use borrow.Author.Tests.{ne_eqb, le-leb}
-use Rattle.reader.specs.declared.Step.{Step}
-use Rattle.engine.specs.Base.{has}
 use Rattle.lexis.specs.RunLaws.{clash}
-use Rattle.grammar.specs.declared.moves.Went.{Went}
-use Rattle.grammar.specs.declared.shape.Child.{Child}
 use Rattle.grammar.specs.Kinds.{tight_of}
 use Rattle.grammar.specs.Moves.{Want, Under, an_expression, a_name, a_part, a_condition, unexpected}
-use Rattle.grammar.specs.Layouts.{Class, inside, single, test, branch, right, layout_of}
+use Rattle.grammar.specs.Layouts.{layout_of}
 use Rattle.grammar.specs.Hcl.{pick_at, under, bounds}
 use Rattle.grammar.specs.Code.{class_of}
 use Rattle.grammar.specs.Thrift.{spare, bonus}
 use Rattle.grammar.specs.Wants.{want_in, below}
-use Rattle.grammar.specs.Said.{ChildOf, classes, PartAt, went_of}
-use Rattle.grammar.specs.PickLaws.{listed, kind_some, pick_none, part_kind, picked_name, picked_condition, picked_term, term_of, Term}
-use Rattle.reader.specs.Said.{step_of, Climbs, Heads, Kept, Any, under_any, any_before, Said, SaidMade, SaidSub, Primary}
+use Rattle.grammar.specs.Said.{Child, Went, ChildOf, PartAt, went_of}
+use Rattle.grammar.specs.PickLaws.{kind_some, pick_none, part_kind, picked_name, picked_condition, picked_term, term_of, Term}
+use Rattle.reader.specs.Said.{Step, step_of, Climbs, Heads, Kept, Any, under_any, any_before, Said, SaidMade, SaidSub, Primary}
 use Rattle.reader.proofs.Answers.{refused}
 use Rattle.reader.proofs.Exprs.{made_head, head_climb, none_as, unexpected_is}
 
@@ -87,39 +83,6 @@ module _ {c left : ℕ} {lines : Bool} {o : Child} (h : ChildOf c left lines o) 
       sub_made m (subst (λ (v : ℕ). (below left lines (class_of v)).want ≡ want_in k 0) (sym e) (sym (part_want k n.low n.high))) (ap (λ (v : ℕ). bounds (class_of v)) e)
       (subst (λ (v : ℕ). bonus (class_of v) ≤ spare k) (sym e) (part_spare k n.low n.high)) (ne_eqb k 6 (omega (arith, n.low))) (ne_eqb k 9 (omega (arith, n.low))) n.tight
       (subst (λ (v : Want). pick_at s (under o.left o.lines v) p ≡ some k) (sym (part_want k n.low n.high)) (part_is s p k at z))
-
--- ---- an expression
-
-or_right : (a b : Bool) → a ≡ false → T (a || b) → T b
-or_right true b e t = clash e
-or_right false b e t = t
-
--- no class of an expression is that of a name, a part or a condition
-module _ (c left : ℕ) (lines : Bool) (n9 : ¬ (c ≡ 9)) (n10 : ¬ (c ≡ 10)) (n12 : ¬ (c ≡ 12)) where
-  looked : (P : Class → Type 0) → P inside → P single → P test → P branch → ((n : ℕ) → P (right n)) → P (class_of c)
-  looked P a b d e f = rw (ne_eqb c 9 n9, ne_eqb c 10 n10, ne_eqb c 12 n12) (one (eqb c 0) a (one (eqb c 1) b (one (eqb c 4) d (one (eqb c 5) e (f (c % 16))))))
-    where
-      one : (t : Bool) {x y : Class} → P x → P y → P (cond t x y)
-      one true u v = u
-      one false u v = v
-
-  expression_want : (below left lines (class_of c)).want ≡ an_expression
-  expression_want = looked (λ (x : Class). (below left lines x).want ≡ an_expression) refl refl refl refl (λ n. refl)
-
-  expression_bonus : bonus (class_of c) ≡ 0
-  expression_bonus = looked (λ (x : Class). bonus x ≡ 0) refl refl refl refl (λ n. refl)
-
-  pub expression_bound : {o : Child} → ChildOf c left lines o → T (has classes c) → o.bound ≤ 7
-  expression_bound h t =
-      let v : T ((eqb c 9 || (eqb c 10 || eqb c 12)) || leb (bounds (class_of c)) 7) = listed (λ n. (eqb n 9 || (eqb n 10 || eqb n 12)) || leb (bounds (class_of n)) 7) classes tt c t in
-      omega (arith, h.bound, leb→le (bounds (class_of c)) 7 (or_right (eqb c 9 || (eqb c 10 || eqb c 12)) (leb (bounds (class_of c)) 7) (rw (ne_eqb c 9 n9, ne_eqb c 10 n10, ne_eqb c 12 n12)) v))
-
-  pub sub_expression : {o : Child} {s : List ℕ} {p i u K : ℕ} {b b' x x' y y' : List ℕ} {r : Step} → ChildOf c left lines o
-      → Said (Climbs s (under o.left o.lines an_expression) o.bound p) s i u K p b b' x x' y y' r → SaidSub c left lines s i u K p b b' x x' y y' r
-  sub_expression {o} {s} {p} {i} {u} {K} {b} {b'} {x} {x'} {y} {y'} {r} h w = record {
-    said = subst₂ (λ (a : Under) (j : ℕ). Said (Climbs s a j p) s i u K p b b' x x' y y' r) (sym (child_under h an_expression expression_want)) (sym h.bound) w;
-    over = λ z. omega (arith, w.room, expression_bonus);
-  }
 
 -- ---- what stands first, of the program
 

@@ -1,5 +1,5 @@
 -- The kind of a term, and the answers of `term` for a unary operator.
-use Prim.Native.Nat.{ℕ, ◌+◌, ◌-◌, ◌≤◌, ◌<◌}
+use Prim.Native.Nat.{ℕ, ◌+◌, ◌-◌, ◌<◌}
 use mathlib.Core.Path.{◌≡◌, refl, sym, ap, ◌∙◌}
 use mathlib.Core.Bool.{Bool, true, false, ◌||◌}
 use mathlib.Core.Option.{some}
@@ -8,20 +8,18 @@ use native.Mathlib.Omega.{arith}
 use lib.ListN.{length}
 use lib.Dec.{eqb, eqb→eq}
 use borrow.Author.Tests.{eqb-true}
-use Rattle.reader.specs.declared.Step.{Step}
 use Rattle.lexis.specs.Bytes.{byte_at}
-use Rattle.grammar.specs.declared.moves.Went.{Went}
 use Rattle.grammar.specs.Kinds.{tight_of, Deep}
 use Rattle.grammar.specs.Moves.{an_expression}
 use Rattle.grammar.specs.Hcl.{pick_at, under}
 use Rattle.grammar.specs.Table.{record_of}
-use Rattle.grammar.specs.Said.{TermAt, Moved}
+use Rattle.grammar.specs.Said.{Went, TermAt, Moved}
 use Rattle.grammar.specs.TextLaws.{pick_string, pick_template}
 use Rattle.grammar.specs.PickLaws.{listed, kind_some, picked_term, termed}
 use Rattle.reader.specs.Buffer.{put_at}
-use Rattle.reader.specs.Said.{step_of, Terms, Kept, Said, Primary}
+use Rattle.reader.specs.Said.{Step, step_of, Terms, Kept, Said, Primary}
 use Rattle.reader.proofs.Answers.{good, refused, pass}
-use Rattle.reader.proofs.Unaries.{Unary, unary, unary_inside, unary_deep, unary_space, unary_high, unary_no, unary_room, unary_ok}
+use Rattle.reader.proofs.Unaries.{Unary, unary, unary_inside, unary_deep, unary_space, unary_high, unary_no, unary_ok}
 
 -- a string or a template stands behind a quote
 pub quote_by : (s : List ℕ) (left : ℕ) (lines : Bool) (p k : ℕ) → pick_at s (under left lines an_expression) p ≡ some k → (eqb k 6 || eqb k 7) ≡ true → byte_at s p ≡ 34
@@ -63,9 +61,6 @@ module _ (s : List ℕ) (lines : Bool) (p k : ℕ) (at : TermAt s p lines k) (so
       module _ (f : g.kind ≡ 0) {i u K : ℕ} {b b' x x' y y' : List ℕ} {m : Step} (w : Said (Terms s (under (left - 1) lines an_expression) g.at) s i u K g.at b b' x x' y y' m) where
         pub term_under_no : {K' : ℕ} {c c' v v' o o' : List ℕ} → ¬ (m.kind ≡ 0) → Kept K' o o' → Said (Terms s (under left lines an_expression) p) s i u K' p c c' v v' o o' m
         term_under_no n kept = pass w n (omega (arith, sp.low)) (λ o q d. unary_no s left lines 0 0 p k [] [] mark (term_picked left) z sp f o q d) kept
-
-        pub term_under_room : m.kind ≡ 0 → p + m.count + 1 ≤ m.end
-        term_under_room n = unary_room s left lines i u p k b x mark (term_picked left) z sp f (good w n)
 
         pub term_under : {b'' : List ℕ} {r : Step} {K' : ℕ} {o o' : List ℕ} → m.kind ≡ 0 → (r ≡ step_of 0 m.end (m.count + 1) m.text) × (b'' ≡ put_at b' (i + m.count) (record_of k 0 p m.end (0 + m.count + 1) (0, 0))) → Kept K' o o'
             → Said (Terms s (under left lines an_expression) p) s i u K' p b b'' x x' o o' r

@@ -8,8 +8,6 @@ use native.Mathlib.Omega.{arith}
 use lib.ListN.{length}
 use lib.Dec.{eqb}
 use borrow.Author.Tests.{eqb-true}
-use Rattle.reader.specs.declared.Step.{Step}
-use Rattle.grammar.specs.declared.moves.Went.{Went}
 use Rattle.engine.specs.Base.{halt, rec_of, choose}
 use Rattle.engine.specs.Engine.{FailIn}
 use Rattle.engine.specs.Layout.{fin, move, kid, grammar, after}
@@ -22,9 +20,9 @@ use Rattle.grammar.specs.Moves.{Under, an_expression, to, no, when, level, atom,
 use Rattle.grammar.specs.Layouts.{Layout, layout_of, layouts, unary_lay, same_line, term}
 use Rattle.grammar.specs.Hcl.{hcl, pick_at, terms, follow_at, under}
 use Rattle.grammar.specs.Table.{record_of}
-use Rattle.grammar.specs.Said.{Moved}
+use Rattle.grammar.specs.Said.{Went, Moved}
 use Rattle.reader.specs.Buffer.{put_at}
-use Rattle.reader.specs.Said.{step_of, Climbs, Terms, Good, Kept, One, Said}
+use Rattle.reader.specs.Said.{Step, step_of, Climbs, Terms, Good, Kept, One, Said}
 use Rattle.reader.proofs.Answers.{from_good, done, done_head, head_no, stage_made, fits_all}
 use Rattle.reader.proofs.Stages.{Stage, stage_start, stage_lay, stage_move, stage_stop, stage_kid, stage_kid_no}
 
@@ -216,9 +214,6 @@ module _ (s : List ℕ) (left : ℕ) (lines : Bool) (i u p k : ℕ) (b x : List 
 
         whole : On b' x' (fin 0) e m t (0 + 1 + 0 + 0)
         whole = stage_kid 0 behind refl (λ _. refl) refl operand (omega (arith, o.room)) (omega arith) (omega arith) (omega arith) (omega arith)
-
-        pub unary_room : p + m + 1 ≤ e
-        unary_room = omega (arith, whole.room)
 
         pub unary_ok : {r : Step} {b'' : List ℕ} {K : ℕ} {y y' : List ℕ} → (r ≡ step_of 0 e (m + 1) t) × (b'' ≡ put_at b' (i + m) (record_of k 0 p e (0 + m + 1) (0, 0))) → Kept K y y'
             → Said (Terms s Here p) s i u K p b b'' x x' y y' r

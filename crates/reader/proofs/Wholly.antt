@@ -7,15 +7,14 @@ use native.Mathlib.Omega.{arith}
 use lib.ListN.{length, take, drop}
 use lib.Dec.{eqb, ltb}
 use borrow.Author.Tests.{eq-eqb, ne_eqb, lt-ltb, le-ltb}
-use Rattle.reader.specs.declared.Step.{Step}
 use Rattle.reader.specs.declared.Answer.{Answer}
+use Rattle.reader.specs.declared.Reading.{Reading}
 use Rattle.engine.specs.Base.{Outcome, ok, halt, stuck, bind, Tree, rec_of}
 use Rattle.engine.specs.BaseLaws.{ok_inj}
 use Rattle.engine.specs.Engine.{Whole, FailAt}
 use Rattle.engine.specs.Layout.{grammar}
 use Rattle.engine.specs.Theorem.{accepts, refuses}
 use Rattle.lexis.specs.Utf8.{first_bad}
-use Rattle.grammar.specs.declared.moves.Went.{Went}
 use Rattle.grammar.specs.Kinds.{Long, Utf8, Slots, Text, most}
 use Rattle.grammar.specs.Moves.{to, no, when, then, skip, unexpected, refusal}
 use Rattle.grammar.specs.Hcl.{hcl}
@@ -25,9 +24,9 @@ use Rattle.grammar.specs.Answer as grammar-answer
 use Rattle.grammar.proofs.Bounds.{flatten_long, reading_small}
 use Rattle.grammar.proofs.Checked.{checked}
 use Rattle.grammar.proofs.RowLaws.{length_records}
-use Rattle.grammar.specs.Said.{Moved, went_of}
+use Rattle.grammar.specs.Said.{Went, Moved, went_of}
 use Rattle.reader.specs.Buffer.{lay, write, copied}
-use Rattle.reader.specs.Said.{step_of, Climbs, Good, told_as, Said}
+use Rattle.reader.specs.Said.{Step, step_of, Climbs, Good, told_as, Said}
 use Rattle.reader.specs.Read.{Wholes, Fitting, Reads, answer_from}
 use Rattle.reader.specs.NodeTextLaws.{take_before}
 use Rattle.reader.specs.NodeReadLaws.{lay_behind, written}
@@ -162,7 +161,7 @@ module _ (x v : List ℕ) (ts : List (List ℕ)) (n : ℕ) (e : total ts ≡ n) 
       ∙ sym (written x ts (omega (arith, e, fits)))
 
 -- a reading that is accepted with the lent room, and laid over it
-reads_fitting : {s b b' x x' : List ℕ} {m : Step} {r : Answer} → Fitting s b x m → ((t : Tree ℕ) → outcome s ≡ ok t → (b' ≡ lay b 0 (table_of s t)) × (x' ≡ write x 0 (texts_of s 0 t)))
+reads_fitting : {s b b' x x' : List ℕ} {m : Reading} {r : Answer} → Fitting s b x m → ((t : Tree ℕ) → outcome s ≡ ok t → (b' ≡ lay b 0 (table_of s t)) × (x' ≡ write x 0 (texts_of s 0 t)))
     → length b' ≡ length b → length x' ≡ length x → answer_from r ≡ answer 0 m.end m.count m.text → Reads s b b' x x' r
 reads_fitting f laid same same' e = record {
   is = e ∙ f.is;
@@ -222,7 +221,7 @@ module _ {s : List ℕ} (h : length s ≤ most) {p : ℕ} (z : p ≡ first_bad s
     read_text_lem {b} {x} o l e = short Text e (omega arith) (e ∙ sym (has_answer (length b / 7) (length x) ∙ rw (le-ltb (length b / 7) m.count o, lt-ltb (length x) m.text l)))
 
     -- it is accepted with the lent room
-    pub fitting : {b x : List ℕ} → m.count ≤ length b / 7 → m.text ≤ length x → Fitting s b x m
+    pub fitting : {b x : List ℕ} → m.count ≤ length b / 7 → m.text ≤ length x → Fitting s b x (record { end = m.end; count = m.count; text = m.text })
     fitting {b} {x} few used = record {
       is = ap (λ (o : ℕ). answer 0 o m.count m.text) end ∙ sym (has_answer (length b / 7) (length x) ∙ rw (le-ltb (length b / 7) m.count few, le-ltb (length x) m.text used));
       few = few;
@@ -251,5 +250,5 @@ module _ {s : List ℕ} (h : length s ≤ most) (z : first_bad s ≡ length s) {
   again_as (halt k q₁) g l t q = absurd (ok_halt (sym q ∙ g))
   again_as stuck g l t q = absurd l
 
-  pub read_again : {k : Step} {r : Answer} → Fitting s b x k → length b' ≡ length b → length x' ≡ length x → answer_from r ≡ answer 0 k.end k.count k.text → Reads s b b' x x' r
+  pub read_again : {k : Reading} {r : Answer} → Fitting s b x k → length b' ≡ length b → length x' ≡ length x → answer_from r ≡ answer 0 k.end k.count k.text → Reads s b b' x x' r
   read_again f same same' e = reads_fitting f (λ t q. again_as w.out w.gives w.told t (sym (outcome_read s h z) ∙ q)) same same' e

@@ -8,8 +8,6 @@ use native.Mathlib.Omega.{arith}
 use lib.ListN.{length}
 use lib.Dec.{eqb}
 use borrow.Author.Tests.{eq-eqb}
-use Rattle.reader.specs.declared.Step.{Step}
-use Rattle.grammar.specs.declared.moves.Went.{Went}
 use Rattle.lexis.specs.Bytes.{byte_at, stands}
 use Rattle.lexis.specs.RunLaws as runs
 use Rattle.engine.specs.Base.{Outcome, Tree}
@@ -19,10 +17,10 @@ use Rattle.grammar.specs.Moves.{an_expression, unexpected}
 use Rattle.grammar.specs.Layouts.{layouts, layout_of, inside, opening, space, past}
 use Rattle.grammar.specs.Hcl.{under, pick_at}
 use Rattle.grammar.specs.Table.{record_of}
-use Rattle.grammar.specs.Said.{went_of, Moved}
+use Rattle.grammar.specs.Said.{Went, went_of, Moved}
 use Rattle.grammar.specs.TextLaws.{pick_chosen, or_none}
 use Rattle.reader.specs.Buffer.{put_at}
-use Rattle.reader.specs.Said.{step_of, Climbs, Kept, Any, under_any, any_before, Said, SaidMade, Asked, Closing, Bracketed}
+use Rattle.reader.specs.Said.{Step, step_of, Climbs, Kept, Any, under_any, any_before, Said, SaidMade, Asked, Closing, Bracketed}
 use Rattle.reader.proofs.Stages.{stage_move}
 use Rattle.reader.proofs.Laids.{On}
 use Rattle.reader.proofs.Ons.{open_to, open_deep, space_to, space_no, past_to, past_gap, past_no, spare_most, on_start, on_stop, on_else, on_fin, on_inside_no, on_inside}

@@ -1,11 +1,10 @@
 -- What the functions that read by bytes alone say.
 use Rattle.std.specs.Prelude.{ℕ, ◌+◌, ◌-◌, ◌≤◌, ◌≡◌, List, [], ◌∷◌, Bool, true, false, cond, length}
-use Rattle.reader.specs.declared.Step.{Step}
 use Rattle.lexis.specs.Bytes.{stands}
-use Rattle.grammar.specs.declared.moves.Went.{Went}
+use Rattle.grammar.specs.Said.{Went}
 use Rattle.grammar.specs.Moves.{Under, Move, to, no, walk}
 use Rattle.grammar.specs.Layouts.{layout_of, between, closing}
-use Rattle.reader.specs.Said.{Any, under_any, any_before, SaidMade}
+use Rattle.reader.specs.Said.{Step, Any, under_any, any_before, SaidMade}
 
 -- 1 where a `~` stands at p
 abbrev pub tilde_at : List ℕ → ℕ → ℕ

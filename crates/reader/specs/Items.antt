@@ -1,16 +1,17 @@
 -- What stands round an object's items: what ends one, the sign after a key, and the keys that may be compared.
-use Rattle.std.specs.Prelude.{ℕ, suc, ◌+◌, ◌*◌, ◌-◌, ◌≤◌, ◌≡◌, Bool, true, false, cond, ◌&&◌, List, [], ◌∷◌, ◌++◌, length, take, eqb}
+use Rattle.std.specs.Prelude.{ℕ, suc, ◌+◌, ◌*◌, ◌-◌, ◌≤◌, ◌≡◌, Bool, true, false, cond, ◌&&◌, List, [], ◌∷◌, ◌++◌, length, take, eqb, Result, Ok, Err}
 use Rattle.lexis.specs.Bytes.{byte_at, is_start}
 use Rattle.lexis.specs.Word.{constant_at}
 use Rattle.grammar.specs.Kinds.{Duplicate}
 use Rattle.grammar.specs.Moves.{Step, to, no, then, when, skip, stopping, marks, behind_key, lone}
 use Rattle.grammar.specs.Table.{record_of}
-use Rattle.grammar.specs.declared.moves.Went.{Went}
-use Rattle.grammar.specs.Said.{went_of}
+use Rattle.grammar.specs.declared.kinds.Refused.{Refused}
+use Rattle.grammar.specs.Kinds.{number}
+use Rattle.grammar.specs.Said.{Went, went_of}
 use Rattle.lexis.specs.Keys.{among}
 use Rattle.index.specs.Mark.{mark_at}
 use Rattle.index.specs.Index.{starts, Indexed, Fits}
-use Rattle.reader.specs.declared.items.Sign.{Sign}
+use Rattle.reader.specs.declared.items.Sign as code
 use Rattle.reader.specs.Buffer.{put_at}
 
 -- the key at p is equal to one of the slots from the first-th to before the k-th in y
@@ -48,6 +49,17 @@ pub data Signed (x y : Step) : ℕ → ℕ → ℕ → Type 0 where
 
 -- ---- what the functions say
 
+-- a sign in numbers: kind 0, where it ends, and 1 for `:`; or the refusal and its place
+pub record Sign : Type 0 where
+  pub kind : ℕ
+  pub at : ℕ
+  pub flag : ℕ
+
+-- the same of the code's answer
+abbrev pub sign_from : Result code.Sign Refused → Sign
+sign_from (Ok x) = record { kind = 0; at = x.at; flag = x.flag }
+sign_from (Err e) = record { kind = number e.kind; at = e.at; flag = 0 }
+
 -- `r` is what stands behind the item that ends at e; kind 0 says that it may stand there
 pub record Behind (s : List ℕ) (e : ℕ) (r : Went) : Type 0 where
   pub is : r ≡ went_of (behind_item s e)
@@ -64,12 +76,12 @@ pub record SignedAt (s y : List ℕ) (first k p e : ℕ) (r : Sign) : Type 0 whe
   pub high : p ≤ e → e ≤ length s → r.at ≤ length s
   pub small : r.flag ≤ 1
 
--- a key that starts at q, whose mark is m, can be put into the slot `top`; where e is not q it is one that may be compared
-pub record Keeping (s y : List ℕ) (first top q m e : ℕ) : Type 0 where
+-- a key that starts at q, whose mark is m, can be put into the slot `top`; where `alone` it is one that may be compared
+pub record Keeping (s y : List ℕ) (first top q m : ℕ) (alone : Bool) : Type 0 where
   pub indexed : Indexed s y first top
   pub fits : Fits y top q
   pub mark : m ≡ mark_at s q
-  pub alone : (e ≡ q → ⊥) → lone s q ≡ true
+  pub lone : alone ≡ true → lone s q ≡ true
 
 -- the item at q is the next: its key is put into the slot `top` where it may be compared, and the slots before the first-th are as they were
 pub record Keeps (s y y' : List ℕ) (first top q r : ℕ) : Type 0 where

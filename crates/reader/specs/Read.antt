@@ -1,7 +1,7 @@
 -- What `read` promises.
 use Rattle.std.specs.Prelude.{ℕ, ◌/◌, ◌*◌, ◌≤◌, ◌≡◌, List, length}
 use Rattle.reader.specs.declared.Answer.{Answer}
-use Rattle.reader.specs.declared.Step.{Step}
+use Rattle.reader.specs.declared.Reading.{Reading}
 use Rattle.lexis.specs.Utf8.{first_bad}
 use Rattle.engine.specs.Base.{Outcome, ok, Tree}
 use Rattle.grammar.specs.Answer.{answer, answer_of, outcome, reading}
@@ -23,7 +23,7 @@ pub record Clean (n : ℕ) (s : List ℕ) : Type 0 where
   pub whole : first_bad s ≡ length s
 
 -- m is the reading of a source s that is accepted with lent room b and x
-pub record Fitting (s b x : List ℕ) (m : Step) : Type 0 where
+pub record Fitting (s b x : List ℕ) (m : Reading) : Type 0 where
   pub is : answer 0 m.end m.count m.text ≡ answer_of s (length b / 7) (length x)
   pub few : m.count ≤ length b / 7
   pub used : m.text ≤ length x

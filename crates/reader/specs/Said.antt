@@ -1,7 +1,7 @@
 -- What an answer of the reader's functions says.
-use Rattle.std.specs.Prelude.{ℕ, ◌+◌, ◌*◌, ◌≤◌, ◌<◌, ◌≡◌, List, [], ◌∷◌, Bool, true, false, ◌||◌, ◌⊎◌, length, take, eqb}
+use Rattle.std.specs.Prelude.{ℕ, ◌+◌, ◌*◌, ◌≤◌, ◌<◌, ◌≡◌, List, [], ◌∷◌, Bool, true, false, ◌||◌, ◌⊎◌, length, take, eqb, Result, Ok, Err}
 use Rattle.std.proofs.Math.Option.{some}
-use Rattle.reader.specs.declared.Step.{Step}
+use Rattle.reader.specs.declared.Reading.{Reading}
 use Rattle.engine.specs.Base.{Outcome, ok, halt, stuck, Rec, Tree, rec_of, size, sizes}
 use Rattle.engine.specs.Engine.{Body, Fits, FailIn, FailAt}
 use Rattle.engine.specs.Layout.{fin, move, kid, grammar, after}
@@ -11,6 +11,8 @@ use Rattle.lexis.specs.Heredoc.{opener_at}
 use Rattle.lexis.specs.String.{mode_of}
 use Rattle.lexis.specs.Keys.{among}
 use Rattle.grammar.specs.declared.picks.Head.{Head}
+use Rattle.grammar.specs.declared.kinds.Refused.{Refused}
+use Rattle.grammar.specs.Kinds.{number}
 use Rattle.grammar.specs.Alone.{HeadAt}
 use Rattle.grammar.specs.Moves.{Under, an_expression, an_item, round}
 use Rattle.grammar.specs.Layouts.{Layout, layout_of, inside, opening, space, past}
@@ -23,8 +25,23 @@ use Rattle.grammar.specs.Table.{record_of, records_of, records_ofs, texts_of, te
 use Rattle.reader.specs.Buffer.{put_at, lay, write}
 use Rattle.reader.specs.Items.{met_in}
 
+-- an answer in numbers: kind 0, the end, the number of records and of text bytes; or a refusal's kind and place, and zeros
+pub record Step : Type 0 where
+  pub kind : ℕ
+  pub end : ℕ
+  pub count : ℕ
+  pub text : ℕ
+
 abbrev pub step_of : ℕ → ℕ → ℕ → ℕ → Step
 step_of k e n t = record { kind = k; end = e; count = n; text = t }
+
+-- the same of the code's answers
+abbrev pub halted : Refused → Step
+halted e = step_of (number e.kind) e.at 0 0
+
+abbrev pub answered : Result Reading Refused → Step
+answered (Ok m) = step_of 0 m.end m.count m.text
+answered (Err e) = halted e
 
 -- what the reader's functions ask: a source of at most 65,535 bytes, a place in it; no more records, text bytes and thrice the keys before it than bytes;
 -- and room for four numbers of each key

@@ -1,7 +1,7 @@
 -- What the functions on strings and pieces of text say.
-use Rattle.std.specs.Prelude.{ℕ, ◌≤◌, ◌≡◌, List, Bool, cond, length}
+use Rattle.std.specs.Prelude.{ℕ, ◌≤◌, ◌≡◌, List, Bool, cond, length, Result, Ok, Err}
 use Rattle.std.proofs.Math.Option.{some}
-use Rattle.reader.specs.declared.Step.{Step}
+use Rattle.grammar.specs.declared.kinds.Refused.{Refused}
 use Rattle.lexis.specs.declared.string.Why.{Why}
 use Rattle.lexis.specs.declared.string.Why.TheVariants as why
 use Rattle.lexis.specs.Bytes.{byte_at}
@@ -13,7 +13,7 @@ use Rattle.grammar.specs.Moves as moves
 use Rattle.grammar.specs.Hcl.{under, pick_at}
 use Rattle.grammar.specs.Table.{record_of, span}
 use Rattle.reader.specs.Buffer.{put_at}
-use Rattle.reader.specs.Said.{step_of, Heads, Said}
+use Rattle.reader.specs.Said.{Step, step_of, halted, Heads, Said}
 
 -- flag 1: with an escape or an escaped marker
 abbrev pub flag_of : Bool → ℕ
@@ -25,6 +25,11 @@ flag_of e = cond e 1 0
 abbrev pub step_from : moves.Step → Step
 step_from (to q) = step_of 0 q 0 0
 step_from (no k q) = step_of k q 0 0
+
+-- the same of the code's answer, which is where the text ends
+abbrev pub ended : Result ℕ Refused → Step
+ended (Ok q) = step_of 0 q 0 0
+ended (Err e) = halted e
 
 -- where a line closes the text that starts at t, its delimiter stands from d to e
 abbrev pub Delimited : List ℕ → ℕ → ℕ → ℕ → Why → Type 0

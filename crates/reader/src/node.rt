@@ -2,18 +2,13 @@
 ghost use Rattle.std.specs.Prelude.{◌≡◌, []};
 ghost use Rattle.reader.specs.Node.{is_text, text_in, has_text, text_of_node, node_has_text};
 
-const STRING: u16 = 6;
-
-const PIECE: u16 = 9;
+use grammar::kinds::{Kind, Limit};
 
 // Whether a kind has text.
 pub fn is_text(kind: u16) -> bool
     ensures { result ≡ is_text kind }
 {
-    if kind == STRING {
-        return true;
-    }
-    kind == PIECE
+    kind == Kind::STRING || kind == Kind::PIECE
 }
 
 // The empty part of the source.
@@ -37,8 +32,8 @@ pub fn text_in<'a>(
     if !is_text(kind) {
         return none(source);
     }
-    let a = from as usize;
-    let e = a + length as usize;
+    let a = usize::from(from);
+    let e = a + usize::from(length);
     if flag == 0 {
         if e <= source.len() {
             return &source[a..e];
@@ -68,8 +63,8 @@ pub fn source_text(source: &[u8], kind: u16, flag: u16, from: u16, length: u16) 
 pub fn node_text<'a>(source: &'a [u8], nodes: &[u16], text: &'a [u8], i: usize) -> &'a [u8]
     ensures { result.now ≡ text_of_node source.now nodes.now text.now i }
 {
-    if i < nodes.len() / 7 {
-        let at = i * 7;
+    if i < nodes.len() / Limit::RECORD {
+        let at = i * Limit::RECORD;
         return text_in(
             source,
             text,
@@ -89,7 +84,7 @@ pub fn names_text(source: &[u8], text: &[u8], kind: u16, flag: u16, from: u16, l
     if !is_text(kind) {
         return false;
     }
-    let e = from as usize + length as usize;
+    let e = usize::from(from) + usize::from(length);
     if flag == 0 {
         return e <= source.len();
     }
@@ -103,8 +98,8 @@ pub fn names_text(source: &[u8], text: &[u8], kind: u16, flag: u16, from: u16, l
 pub fn has_text(source: &[u8], nodes: &[u16], text: &[u8], i: usize) -> bool
     ensures { result ≡ node_has_text source.now nodes.now text.now i }
 {
-    if i < nodes.len() / 7 {
-        let at = i * 7;
+    if i < nodes.len() / Limit::RECORD {
+        let at = i * Limit::RECORD;
         return names_text(
             source,
             text,

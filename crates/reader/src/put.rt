@@ -1,10 +1,10 @@
-// Records in the lent buffer, and answers.
+// Records in the lent buffer, and what was read.
 ghost use Rattle.std.specs.Prelude.{◌≡◌, ◌+◌};
 ghost use Rattle.grammar.specs.Table.{record_of};
 ghost use Rattle.reader.specs.Buffer.{put_at};
-ghost use Rattle.reader.specs.Said.{step_of, Closing};
+ghost use Rattle.reader.specs.Said.{Closing};
 
-use crate::Step;
+use crate::Reading;
 
 // The i-th record, where the buffer has one.
 pub fn put(
@@ -32,26 +32,10 @@ pub fn put(
     }
 }
 
-pub fn refuse(kind: u8, at: usize) -> Step
-    ensures { result ≡ step_of kind at 0 0 }
+pub fn accept(end: usize, count: usize, text: usize) -> Reading
+    ensures { result ≡ record { end = end; count = count; text = text } }
 {
-    Step {
-        kind,
-        end: at,
-        count: 0,
-        text: 0,
-    }
-}
-
-pub fn accept(end: usize, count: usize, text: usize) -> Step
-    ensures { result ≡ step_of 0 end count text }
-{
-    Step {
-        kind: 0,
-        end,
-        count,
-        text,
-    }
+    Reading { end, count, text }
 }
 
 // A record after the n records of its children, the first of which is the i-th; `before` records of its left operand stand before them.
@@ -65,9 +49,9 @@ pub fn close(
     to: usize,
     before: usize,
     text: usize,
-) -> Step
+) -> Reading
     requires { Closing i n flag from to before }
-    ensures { (result ≡ step_of 0 to (n + 1) text) × (nodes.new ≡ put_at nodes.old (i + n) (record_of kind flag from to (before + n + 1) (0, 0))) }
+    ensures { (result ≡ record { end = to; count = n + 1; text = text }) × (nodes.new ≡ put_at nodes.old (i + n) (record_of kind flag from to (before + n + 1) (0, 0))) }
 {
     put(
         nodes,

@@ -5,41 +5,48 @@ ghost use Rattle.lexis.specs.String.{quoted, RunHere};
 ghost use Rattle.grammar.specs.Moves.{closes_as};
 ghost use Rattle.grammar.specs.Table.{record_of};
 ghost use Rattle.reader.specs.Buffer.{put_at};
-ghost use Rattle.reader.specs.Said.{LeadAt};
-ghost use Rattle.reader.specs.Text.{step_from, Ends, Piecing, Pieced, Quoting, SaidString};
+ghost use Rattle.reader.specs.Said.{answered, LeadAt};
+ghost use Rattle.reader.specs.Text.{ended, step_from, Ends, Piecing, Pieced, Quoting, SaidString};
 
-use crate::Step;
-use crate::put::{accept, put, refuse};
-use grammar::kinds::{Kind, Refusal};
+use crate::Reading;
+use crate::put::{accept, put};
+use grammar::kinds::{Kind, Refusal, Refused};
 use grammar::picks::{Head, head_at};
 use lexis::bytes::byte_at;
 use lexis::heredoc::{Line, line_at};
 use lexis::string::{Run, Why, write};
 
 // How the line at q closes a heredoc whose delimiter stands in the source from d to e.
-fn closing(s: &[u8], q: usize, d: usize, e: usize) -> Step
-    ensures { result ≡ step_from (closes_as (line_at (part s.now d e) s.now q) q) }
+fn closing(s: &[u8], q: usize, d: usize, e: usize) -> Result<usize, Refused>
+    ensures { ended result ≡ step_from (closes_as (line_at (part s.now d e) s.now q) q) }
 {
     match line_at(s, d, e, q) {
-        Line::Text => refuse(Refusal::UNEXPECTED, q),
-        Line::Closes(at) => accept(at, 0, 0),
-        Line::Foreign(at) => refuse(Refusal::FOREIGN, at),
+        Line::Text => Err(Refusal::Unexpected.at(q)),
+        Line::Closes(at) => Ok(at),
+        Line::Foreign(at) => Err(Refusal::Foreign.at(at)),
     }
 }
 
-// How the text that starts at `start` ends at q, by why no unit of text stands there; a heredoc's delimiter stands in the source from d to e.
-pub fn ends(s: &[u8], start: usize, q: usize, d: usize, e: usize, why: Why) -> Step
+// Where the text that starts at `start` ends at q, by why no unit of text stands there; a heredoc's delimiter stands in the source from d to e.
+pub fn ends(
+    s: &[u8],
+    start: usize,
+    q: usize,
+    d: usize,
+    e: usize,
+    why: Why,
+) -> Result<usize, Refused>
     requires { q ≤ 65535 }
-    ensures { Ends s.now start q d e why result }
+    ensures { Ends s.now start q d e why (ended result) }
 {
     match why {
-        Why::Quote => accept(q + 1, 0, 0),
-        Why::Interpolation => refuse(Refusal::UNEXPECTED, q),
-        Why::Directive => refuse(Refusal::DIRECTIVE, q),
-        Why::Escape => refuse(Refusal::ESCAPE, q),
+        Why::Quote => Ok(q + 1),
+        Why::Interpolation => Err(Refusal::Unexpected.at(q)),
+        Why::Directive => Err(Refusal::Directive.at(q)),
+        Why::Escape => Err(Refusal::Escape.at(q)),
         Why::Closing => closing(s, q, d, e),
         Why::Foreign => closing(s, q, d, e),
-        Why::End => refuse(Refusal::UNCLOSED, start),
+        Why::End => Err(Refusal::Unclosed.at(start)),
     }
 }
 
@@ -119,21 +126,18 @@ pub fn string(
     u: usize,
     p: usize,
     r: Run,
-) -> Step
+) -> Result<Reading, Refused>
     requires { Quoting s.now i u p × RunHere quoted s.now (p + 1) r }
-    ensures { SaidString s.now i u p nodes.old nodes.new text.old text.new result }
+    ensures { SaidString s.now i u p nodes.old nodes.new text.old text.new (answered result) }
 {
     let from = p + 1;
     let why = r.why;
-    let c = ends(s, p, r.end, 0, 0, why);
-    if c.kind != 0 {
-        return c;
-    }
+    let c = ends(s, p, r.end, 0, 0, why)?;
     if r.escaped {
         write(s, from, true, 0, 0, text, u);
-        leaf(nodes, i, Kind::STRING, 1, p, c.end, u, r.length);
-        return accept(c.end, 1, r.length);
+        leaf(nodes, i, Kind::STRING, 1, p, c, u, r.length);
+        return Ok(accept(c, 1, r.length));
     }
-    leaf(nodes, i, Kind::STRING, 0, p, c.end, from, r.end - from);
-    accept(c.end, 1, 0)
+    leaf(nodes, i, Kind::STRING, 0, p, c, from, r.end - from);
+    Ok(accept(c, 1, 0))
 }

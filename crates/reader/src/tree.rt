@@ -6,20 +6,20 @@ ghost use Rattle.index.specs.Mark.{mark_at};
 ghost use Rattle.index.specs.Index.{Indexed};
 ghost use Rattle.grammar.specs.Said.{classes};
 ghost use Rattle.lexis.specs.Bytes.{byte_at};
-ghost use Rattle.grammar.specs.Alone.{head_of, NextAt, key_of, Word, KeyAt};
+ghost use Rattle.grammar.specs.Alone.{head_of, NextAt, Word, KeyAt};
 ghost use Rattle.grammar.specs.Moves.{an_expression};
 ghost use Rattle.grammar.specs.Layouts.{layout_of, text_lay};
 ghost use Rattle.grammar.specs.Hcl.{under, pick_at};
-ghost use Rattle.reader.specs.Said.{Asked, Said, Climbs, Firsts, Terms, Heads, Primary, LeadAt, Bracketed, Laying, SaidMade, SaidSub, SaidItem, Any, under_any, any_before, One, Texting};
+ghost use Rattle.reader.specs.Said.{answered, Asked, Said, Climbs, Firsts, Terms, Heads, Primary, LeadAt, Bracketed, Laying, SaidMade, SaidSub, SaidItem, Any, under_any, any_before, One, Texting};
 
-use crate::Step;
+use crate::Reading;
 use crate::bare::{attribute, beyond, called, tilde};
 use crate::items::{bare, behind, keep, marked, name, sign_at};
-use crate::put::{accept, close, refuse};
+use crate::put::{accept, close};
 use crate::text::{ends, lead_at, piece, string};
-use grammar::kinds::{Kind, Refusal, tight};
+use grammar::kinds::{Kind, Refusal, Refused, tight};
 use grammar::moves::{is_part, space, unexpected, walk};
-use grammar::picks::{follow, key_at, next_at, part_at, term_at};
+use grammar::picks::{Key, follow, key_at, next_at, part_at, term_at};
 use grammar::program::{Instr, begin, child, instr};
 use index::find;
 use lexis::bytes::{one_at, two_at};
@@ -47,22 +47,19 @@ pub fn expr(
     left: usize,
     lines: bool,
     j: usize,
-) -> Step
+) -> Result<Reading, Refused>
     requires { Asked s.now keys.old i u k p × (j ≤ 7) }
-    ensures { Said (Climbs s.now (under left lines an_expression) j p) s.now i u k p nodes.old nodes.new text.old text.new keys.old keys.new result }
+    ensures { Said (Climbs s.now (under left lines an_expression) j p) s.now i u k p nodes.old nodes.new text.old text.new keys.old keys.new (answered result) }
 {
     let x = lead_at(s, p, lines);
-    let l = first(s, nodes, text, keys, i, u, k, p, left, lines, x.kind, x.end);
-    if l.kind != 0 {
-        return l;
-    }
+    let l = first(s, nodes, text, keys, i, u, k, p, left, lines, x.kind, x.end)?;
     let mut e = l.end;
     let mut n = l.count;
     let mut t = l.text;
     loop {
         let f = next_at(s, e, lines);
         if tight(f.kind) as usize <= j {
-            return accept(e, n, t);
+            return Ok(accept(e, n, t));
         }
         let m = grow(
             s,
@@ -79,10 +76,7 @@ pub fn expr(
             f.kind,
             f.end,
             n,
-        );
-        if m.kind != 0 {
-            return m;
-        }
+        )?;
         e = m.end;
         n = n + m.count;
         t = t + m.text;
@@ -104,16 +98,15 @@ pub fn first(
     lines: bool,
     kind: u16,
     end: usize,
-) -> Step
+) -> Result<Reading, Refused>
     requires { Asked s.now keys.old i u k p × LeadAt s.now p lines (head_of kind end) }
-    ensures { Said (Firsts s.now (under left lines an_expression) p) s.now i u k p nodes.old nodes.new text.old text.new keys.old keys.new result }
+    ensures { Said (Firsts s.now (under left lines an_expression) p) s.now i u k p nodes.old nodes.new text.old text.new keys.old keys.new (answered result) }
 {
     if end != p {
-        return close(nodes, i, 0, kind, 0, p, end, 0, 0);
+        return Ok(close(nodes, i, 0, kind, 0, p, end, 0, 0));
     }
     if kind == Kind::NONE {
-        let w = unexpected(s, p);
-        return refuse(w.kind, w.at);
+        return Err(unexpected(s, p));
     }
     if is_unary(kind) {
         return term(s, nodes, text, keys, i, u, k, p, left, lines);
@@ -138,9 +131,9 @@ pub fn grow(
     kind: u16,
     end: usize,
     before: usize,
-) -> Step
+) -> Result<Reading, Refused>
     requires { Asked s.now keys.old i u k p × Laying start p before kind × NextAt s.now p lines (head_of kind end) }
-    ensures { SaidMade Any s.now (under_any kind left lines) start any_before kind (layout_of kind) p i u before p k nodes.old nodes.new text.old text.new keys.old keys.new result }
+    ensures { SaidMade Any s.now (under_any kind left lines) start any_before kind (layout_of kind) p i u before p k nodes.old nodes.new text.old text.new keys.old keys.new (answered result) }
 {
     if end == p {
         if kind == Kind::TRAVERSAL {
@@ -150,16 +143,10 @@ pub fn grow(
             s, nodes, text, keys, i, u, k, start, p, left, lines, kind, before,
         );
     }
-    let g = space(s, end, lines);
-    if g.kind != 0 {
-        return refuse(g.kind, g.at);
-    }
+    let g = space(s, end, lines)?;
     let h = tight(kind) as usize;
-    let m = expr(s, nodes, text, keys, i, u, k, g.at, left, lines, h);
-    if m.kind != 0 {
-        return m;
-    }
-    close(nodes, i, m.count, kind, 0, start, m.end, before, m.text)
+    let m = expr(s, nodes, text, keys, i, u, k, g, left, lines, h)?;
+    Ok(close(nodes, i, m.count, kind, 0, start, m.end, before, m.text))
 }
 
 // A term at p, its traversals included; for a unary operator it calls itself.
@@ -175,40 +162,30 @@ pub fn term(
     p: usize,
     left: usize,
     lines: bool,
-) -> Step
+) -> Result<Reading, Refused>
     requires { Asked s.now keys.old i u k p }
-    ensures { Said (Terms s.now (under left lines an_expression) p) s.now i u k p nodes.old nodes.new text.old text.new keys.old keys.new result }
+    ensures { Said (Terms s.now (under left lines an_expression) p) s.now i u k p nodes.old nodes.new text.old text.new keys.old keys.new (answered result) }
 {
     let kind = term_at(s, p, lines);
     if kind == Kind::NONE {
-        let w = unexpected(s, p);
-        return refuse(w.kind, w.at);
+        return Err(unexpected(s, p));
     }
     if is_unary(kind) {
         if left == 0 {
-            return refuse(Refusal::DEEP, p);
+            return Err(Refusal::Deep.at(p));
         }
-        let g = space(s, p + 1, false);
-        if g.kind != 0 {
-            return refuse(g.kind, g.at);
-        }
-        let m = term(s, nodes, text, keys, i, u, k, g.at, left - 1, lines);
-        if m.kind != 0 {
-            return m;
-        }
-        return close(nodes, i, m.count, kind, 0, p, m.end, 0, m.text);
+        let g = space(s, p + 1, false)?;
+        let m = term(s, nodes, text, keys, i, u, k, g, left - 1, lines)?;
+        return Ok(close(nodes, i, m.count, kind, 0, p, m.end, 0, m.text));
     }
-    let l = prim(s, nodes, text, keys, i, u, k, p, left, lines, kind);
-    if l.kind != 0 {
-        return l;
-    }
+    let l = prim(s, nodes, text, keys, i, u, k, p, left, lines, kind)?;
     let mut e = l.end;
     let mut n = l.count;
     let mut t = l.text;
     loop {
         let f = follow(s, e, lines);
         if f != Kind::TRAVERSAL {
-            return accept(e, n, t);
+            return Ok(accept(e, n, t));
         }
         let m = laid(
             s,
@@ -224,10 +201,7 @@ pub fn term(
             lines,
             f,
             n,
-        );
-        if m.kind != 0 {
-            return m;
-        }
+        )?;
         e = m.end;
         n = n + m.count;
         t = t + m.text;
@@ -262,9 +236,9 @@ pub fn prim(
     left: usize,
     lines: bool,
     kind: u16,
-) -> Step
+) -> Result<Reading, Refused>
     requires { Asked s.now keys.old i u k p × Primary s.now left lines p kind }
-    ensures { Said (Heads s.now (under left lines an_expression) p) s.now i u k p nodes.old nodes.new text.old text.new keys.old keys.new result }
+    ensures { Said (Heads s.now (under left lines an_expression) p) s.now i u k p nodes.old nodes.new text.old text.new keys.old keys.new (answered result) }
 {
     if is_quoted(kind) {
         return quoted(s, nodes, text, keys, i, u, k, p, left, lines);
@@ -300,9 +274,9 @@ pub fn laid(
     lines: bool,
     kind: u16,
     before: usize,
-) -> Step
+) -> Result<Reading, Refused>
     requires { Asked s.now keys.old i u k p × Laying start p before kind }
-    ensures { SaidMade Any s.now (under_any kind left lines) start any_before kind (layout_of kind) p i u before p k nodes.old nodes.new text.old text.new keys.old keys.new result }
+    ensures { SaidMade Any s.now (under_any kind left lines) start any_before kind (layout_of kind) p i u before p k nodes.old nodes.new text.old text.new keys.old keys.new (answered result) }
 {
     let mut pc = begin(kind);
     let mut q = p;
@@ -311,25 +285,27 @@ pub fn laid(
     loop {
         let x = instr(pc);
         if x.op == Instr::FIN {
-            return close(nodes, i, n, kind, x.arg, start, q, before, t);
+            return Ok(close(nodes, i, n, kind, x.arg, start, q, before, t));
         }
         let mut at = q;
         let mut further = pc + 1;
         if x.op != Instr::KID {
-            let w = walk(s, left, lines, x.arg, q);
-            if w.kind != 0 {
-                if x.op == Instr::MOVE {
-                    return refuse(w.kind, w.at);
+            let to = match walk(s, left, lines, x.arg, q) {
+                Ok(to) => to,
+                Err(refused) => {
+                    if x.op == Instr::MOVE {
+                        return Err(refused);
+                    }
+                    pc = x.next;
+                    continue;
                 }
-                pc = x.next;
-                continue;
-            }
+            };
             if x.op != Instr::REP {
-                q = w.at;
+                q = to;
                 pc = pc + 1;
                 continue;
             }
-            at = w.at;
+            at = to;
             further = pc;
         }
         let m = sub(
@@ -344,10 +320,7 @@ pub fn laid(
             left,
             lines,
             x.class,
-        );
-        if m.kind != 0 {
-            return m;
-        }
+        )?;
         q = m.end;
         n = n + m.count;
         t = t + m.text;
@@ -369,9 +342,9 @@ pub fn sub(
     left: usize,
     lines: bool,
     class: u8,
-) -> Step
+) -> Result<Reading, Refused>
     requires { Asked s.now keys.old i u k p × T (has classes class) }
-    ensures { SaidSub class left lines s.now i u k p nodes.old nodes.new text.old text.new keys.old keys.new result }
+    ensures { SaidSub class left lines s.now i u k p nodes.old nodes.new text.old text.new keys.old keys.new (answered result) }
 {
     let y = child(class, left, lines);
     if class == CALLED {
@@ -397,8 +370,7 @@ pub fn sub(
     if class == PORTION {
         let kind = part_at(s, p);
         if kind == Kind::NONE {
-            let w = unexpected(s, p);
-            return refuse(w.kind, w.at);
+            return Err(unexpected(s, p));
         }
         return laid(
             s, nodes, text, keys, i, u, k, p, p, y.left, y.lines, kind, 0,
@@ -420,35 +392,26 @@ pub fn array(
     p: usize,
     left: usize,
     lines: bool,
-) -> Step
+) -> Result<Reading, Refused>
     requires { Asked s.now keys.old i u k p × (byte_at s.now p ≡ 91) }
-    ensures { SaidMade Any s.now (under_any 11 left lines) p any_before 11 (layout_of 11) p i u 0 p k nodes.old nodes.new text.old text.new keys.old keys.new result }
+    ensures { SaidMade Any s.now (under_any 11 left lines) p any_before 11 (layout_of 11) p i u 0 p k nodes.old nodes.new text.old text.new keys.old keys.new (answered result) }
 {
     if left == 0 {
-        return refuse(Refusal::DEEP, p);
+        return Err(Refusal::Deep.at(p));
     }
-    let g = space(s, p + 1, true);
-    if g.kind != 0 {
-        return refuse(g.kind, g.at);
-    }
-    let mut q = g.at;
+    let g = space(s, p + 1, true)?;
+    let mut q = g;
     let mut n = 0;
     let mut t = 0;
     loop {
         if one_at(s, q, 93) {
-            return close(nodes, i, n, Kind::ARRAY, 0, p, q + 1, 0, t);
+            return Ok(close(nodes, i, n, Kind::ARRAY, 0, p, q + 1, 0, t));
         }
-        let m = expr(s, nodes, text, keys, i + n, u + t, k, q, left - 1, true, 0);
-        if m.kind != 0 {
-            return m;
-        }
+        let m = expr(s, nodes, text, keys, i + n, u + t, k, q, left - 1, true, 0)?;
         n = n + m.count;
         t = t + m.text;
-        let c = beyond(s, m.end);
-        if c.kind != 0 {
-            return refuse(c.kind, c.at);
-        }
-        q = c.at;
+        let c = beyond(s, m.end)?;
+        q = c;
     }
 }
 
@@ -467,30 +430,20 @@ pub fn within(
     lines: bool,
     kind: u16,
     closer: u8,
-) -> Step
+) -> Result<Reading, Refused>
     requires { Asked s.now keys.old i u k p × Bracketed s.now p kind closer }
-    ensures { SaidMade Any s.now (under_any kind left lines) p any_before kind (layout_of kind) p i u 0 p k nodes.old nodes.new text.old text.new keys.old keys.new result }
+    ensures { SaidMade Any s.now (under_any kind left lines) p any_before kind (layout_of kind) p i u 0 p k nodes.old nodes.new text.old text.new keys.old keys.new (answered result) }
 {
     if left == 0 {
-        return refuse(Refusal::DEEP, p);
+        return Err(Refusal::Deep.at(p));
     }
-    let g = space(s, p + 1, true);
-    if g.kind != 0 {
-        return refuse(g.kind, g.at);
+    let g = space(s, p + 1, true)?;
+    let m = expr(s, nodes, text, keys, i, u, k, g, left - 1, true, 0)?;
+    let h = space(s, m.end, true)?;
+    if !one_at(s, h, closer) {
+        return Err(unexpected(s, h));
     }
-    let m = expr(s, nodes, text, keys, i, u, k, g.at, left - 1, true, 0);
-    if m.kind != 0 {
-        return m;
-    }
-    let h = space(s, m.end, true);
-    if h.kind != 0 {
-        return refuse(h.kind, h.at);
-    }
-    if !one_at(s, h.at, closer) {
-        let w = unexpected(s, h.at);
-        return refuse(w.kind, w.at);
-    }
-    close(nodes, i, m.count, kind, 0, p, h.at + 1, 0, m.text)
+    Ok(close(nodes, i, m.count, kind, 0, p, h + 1, 0, m.text))
 }
 
 // A part of a traversal at p.
@@ -506,14 +459,13 @@ pub fn part(
     p: usize,
     left: usize,
     lines: bool,
-) -> Step
+) -> Result<Reading, Refused>
     requires { Asked s.now keys.old i u k p }
-    ensures { SaidSub 10 left lines s.now i u k p nodes.old nodes.new text.old text.new keys.old keys.new result }
+    ensures { SaidSub 10 left lines s.now i u k p nodes.old nodes.new text.old text.new keys.old keys.new (answered result) }
 {
     let kind = part_at(s, p);
     if kind == Kind::NONE {
-        let w = unexpected(s, p);
-        return refuse(w.kind, w.at);
+        return Err(unexpected(s, p));
     }
     if kind == Kind::ATTRIBUTE {
         return attribute(s, nodes, i, p);
@@ -539,32 +491,30 @@ pub fn parts(
     left: usize,
     lines: bool,
     before: usize,
-) -> Step
+) -> Result<Reading, Refused>
     requires { Asked s.now keys.old i u k p × Laying start p before 37 }
-    ensures { SaidMade Any s.now (under_any 37 left lines) start any_before 37 (layout_of 37) p i u before p k nodes.old nodes.new text.old text.new keys.old keys.new result }
+    ensures { SaidMade Any s.now (under_any 37 left lines) start any_before 37 (layout_of 37) p i u before p k nodes.old nodes.new text.old text.new keys.old keys.new (answered result) }
 {
     let mut q = p;
     let mut n = 0;
     let mut t = 0;
     loop {
-        let g = space(s, q, lines);
-        if g.kind != 0 {
-            if n == 0 {
-                return refuse(g.kind, g.at);
+        let at = match space(s, q, lines) {
+            Ok(at) => at,
+            Err(refused) => {
+                if n == 0 {
+                    return Err(refused);
+                }
+                return Ok(close(nodes, i, n, Kind::TRAVERSAL, 0, start, q, before, t));
             }
-            return close(nodes, i, n, Kind::TRAVERSAL, 0, start, q, before, t);
-        }
-        if !is_part(s, g.at) {
+        };
+        if !is_part(s, at) {
             if n == 0 {
-                let w = unexpected(s, g.at);
-                return refuse(w.kind, w.at);
+                return Err(unexpected(s, at));
             }
-            return close(nodes, i, n, Kind::TRAVERSAL, 0, start, q, before, t);
+            return Ok(close(nodes, i, n, Kind::TRAVERSAL, 0, start, q, before, t));
         }
-        let m = part(s, nodes, text, keys, i + n, u + t, k, g.at, left, lines);
-        if m.kind != 0 {
-            return m;
-        }
+        let m = part(s, nodes, text, keys, i + n, u + t, k, at, left, lines)?;
         q = m.end;
         n = n + m.count;
         t = t + m.text;
@@ -584,38 +534,27 @@ pub fn interp(
     p: usize,
     left: usize,
     lines: bool,
-) -> Step
+) -> Result<Reading, Refused>
     requires { Asked s.now keys.old i u k p }
-    ensures { SaidMade Any s.now (under_any 10 left lines) p any_before 10 (layout_of 10) p i u 0 p k nodes.old nodes.new text.old text.new keys.old keys.new result }
+    ensures { SaidMade Any s.now (under_any 10 left lines) p any_before 10 (layout_of 10) p i u 0 p k nodes.old nodes.new text.old text.new keys.old keys.new (answered result) }
 {
     if !two_at(s, p, 36, 123) {
-        let w = unexpected(s, p);
-        return refuse(w.kind, w.at);
+        return Err(unexpected(s, p));
     }
     if left == 0 {
-        return refuse(Refusal::DEEP, p);
+        return Err(Refusal::Deep.at(p));
     }
     let f = tilde(s, p + 2);
-    let g = space(s, p + 2 + f, true);
-    if g.kind != 0 {
-        return refuse(g.kind, g.at);
-    }
-    let m = expr(s, nodes, text, keys, i, u, k, g.at, left - 1, true, 0);
-    if m.kind != 0 {
-        return m;
-    }
-    let h = space(s, m.end, true);
-    if h.kind != 0 {
-        return refuse(h.kind, h.at);
-    }
-    let z = tilde(s, h.at);
-    let c = h.at + z;
+    let g = space(s, p + 2 + f, true)?;
+    let m = expr(s, nodes, text, keys, i, u, k, g, left - 1, true, 0)?;
+    let h = space(s, m.end, true)?;
+    let z = tilde(s, h);
+    let c = h + z;
     if !one_at(s, c, 125) {
-        let w = unexpected(s, c);
-        return refuse(w.kind, w.at);
+        return Err(unexpected(s, c));
     }
     let flag = f + 2 * z;
-    close(
+    Ok(close(
         nodes,
         i,
         m.count,
@@ -625,7 +564,7 @@ pub fn interp(
         c + 1,
         0,
         m.text,
-    )
+    ))
 }
 
 // A quote at p: a string, or a template where an interpolation ends its first run.
@@ -641,9 +580,9 @@ pub fn quoted(
     p: usize,
     left: usize,
     lines: bool,
-) -> Step
+) -> Result<Reading, Refused>
     requires { Asked s.now keys.old i u k p × (byte_at s.now p ≡ 34) }
-    ensures { Said (Heads s.now (under left lines an_expression) p) s.now i u k p nodes.old nodes.new text.old text.new keys.old keys.new result }
+    ensures { Said (Heads s.now (under left lines an_expression) p) s.now i u k p nodes.old nodes.new text.old text.new keys.old keys.new (answered result) }
 {
     let r = run_at(s, p + 1, true, 0, 0);
     let why = r.why;
@@ -683,35 +622,15 @@ pub fn heredoc(
     p: usize,
     left: usize,
     lines: bool,
-) -> Step
+) -> Result<Reading, Refused>
     requires { Asked s.now keys.old i u k p × (pick_at s.now (under left lines an_expression) p ≡ some 8) }
-    ensures { Said (Heads s.now (under left lines an_expression) p) s.now i u k p nodes.old nodes.new text.old text.new keys.old keys.new result }
+    ensures { Said (Heads s.now (under left lines an_expression) p) s.now i u k p nodes.old nodes.new text.old text.new keys.old keys.new (answered result) }
 {
-    let o = opener_at(s, p);
-    if !o.good {
-        let w = unexpected(s, o.at);
-        return refuse(w.kind, w.at);
-    }
-    if o.dash {
-        return pieces(
-            s,
-            nodes,
-            text,
-            keys,
-            i,
-            u,
-            k,
-            p,
-            o.at,
-            left,
-            lines,
-            Kind::HEREDOC,
-            1,
-            false,
-            o.from,
-            o.to,
-        );
-    }
+    let o = match opener_at(s, p) {
+        Ok(o) => o,
+        Err(at) => return Err(unexpected(s, at)),
+    };
+    let flag = usize::from(o.dash);
     pieces(
         s,
         nodes,
@@ -725,7 +644,7 @@ pub fn heredoc(
         left,
         lines,
         Kind::HEREDOC,
-        0,
+        flag,
         false,
         o.from,
         o.to,
@@ -751,9 +670,9 @@ pub fn pieces(
     plain: bool,
     d: usize,
     e: usize,
-) -> Step
+) -> Result<Reading, Refused>
     requires { Asked s.now keys.old i u k p × Texting s.now start p kind flag plain d e }
-    ensures { SaidMade One s.now (λ _. under left lines an_expression) start (λ _. []) kind (text_lay flag) p i u 0 start k nodes.old nodes.new text.old text.new keys.old keys.new result }
+    ensures { SaidMade One s.now (λ _. under left lines an_expression) start (λ _. []) kind (text_lay flag) p i u 0 start k nodes.old nodes.new text.old text.new keys.old keys.new (answered result) }
 {
     let mut q = p;
     let mut n = 0;
@@ -782,16 +701,10 @@ pub fn pieces(
             continue;
         }
         let Why::Interpolation = why else {
-            let c = ends(s, start, q, d, e, why);
-            if c.kind != 0 {
-                return c;
-            }
-            return close(nodes, i, n, kind, flag, start, c.end, 0, t);
+            let c = ends(s, start, q, d, e, why)?;
+            return Ok(close(nodes, i, n, kind, flag, start, c, 0, t));
         };
-        let m = interp(s, nodes, text, keys, i + n, u + t, k, q, left, lines);
-        if m.kind != 0 {
-            return m;
-        }
+        let m = interp(s, nodes, text, keys, i + n, u + t, k, q, left, lines)?;
         q = m.end;
         n = n + m.count;
         t = t + m.text;
@@ -811,27 +724,24 @@ pub fn object(
     p: usize,
     left: usize,
     lines: bool,
-) -> Step
+) -> Result<Reading, Refused>
     requires { Asked s.now keys.old i u k p × (pick_at s.now (under left lines an_expression) p ≡ some 12) }
-    ensures { Said (Heads s.now (under left lines an_expression) p) s.now i u k p nodes.old nodes.new text.old text.new keys.old keys.new result }
+    ensures { Said (Heads s.now (under left lines an_expression) p) s.now i u k p nodes.old nodes.new text.old text.new keys.old keys.new (answered result) }
 {
     if left == 0 {
-        return refuse(Refusal::DEEP, p);
+        return Err(Refusal::Deep.at(p));
     }
-    let g = space(s, p + 1, true);
-    if g.kind != 0 {
-        return refuse(g.kind, g.at);
+    let g = space(s, p + 1, true)?;
+    if one_at(s, g, 125) {
+        return Ok(close(nodes, i, 0, Kind::OBJECT, 0, p, g + 1, 0, 0));
     }
-    if one_at(s, g.at, 125) {
-        return close(nodes, i, 0, Kind::OBJECT, 0, p, g.at + 1, 0, 0);
-    }
-    let mut q = g.at;
+    let mut q = g;
     let mut n = 0;
     let mut t = 0;
     let mut top = k;
     loop {
-        let w = key_at(s, q);
-        let h = marked(s, q, w.end);
+        let word = key_at(s, q);
+        let h = marked(s, q, word);
         let m = item(
             s,
             nodes,
@@ -844,29 +754,20 @@ pub fn object(
             q,
             left - 1,
             h,
-            w.kind,
-            w.end,
-            w.at,
-            w.flag,
-        );
-        if m.kind != 0 {
-            return m;
-        }
+            word,
+        )?;
         n = n + m.count;
         t = t + m.text;
-        let c = behind(s, m.end);
-        if c.kind != 0 {
-            return refuse(c.kind, c.at);
+        let c = behind(s, m.end)?;
+        if one_at(s, c, 125) {
+            return Ok(close(nodes, i, n, Kind::OBJECT, 0, p, c + 1, 0, t));
         }
-        if one_at(s, c.at, 125) {
-            return close(nodes, i, n, Kind::OBJECT, 0, p, c.at + 1, 0, t);
-        }
-        top = keep(s, keys, k, top, q, h, w.end);
-        q = c.at;
+        top = keep(s, keys, k, top, q, h, word.is_some());
+        q = c;
     }
 }
 
-// An item at p, whose key has the mark h and is a word where `end` is not p, with the earlier keys of its object in the slots from the first-th to before the k-th.
+// An item at p, whose key has the mark h and is perhaps a word, with the earlier keys of its object in the slots from the first-th to before the k-th.
 #[cycle(tree)]
 pub fn item(
     s: &[u8],
@@ -880,32 +781,18 @@ pub fn item(
     p: usize,
     left: usize,
     h: u16,
-    kind: u16,
-    end: usize,
-    at: usize,
-    flag: usize,
-) -> Step
-    requires { Asked s.now keys.old i u k p × Indexed s.now keys.old first k × (h ≡ mark_at s.now p) × KeyAt s.now p (key_of kind end at flag) }
-    ensures { SaidItem s.now left i u k first p nodes.old nodes.new text.old text.new keys.old keys.new result }
+    word: Option<Key>,
+) -> Result<Reading, Refused>
+    requires { Asked s.now keys.old i u k p × Indexed s.now keys.old first k × (h ≡ mark_at s.now p) × KeyAt s.now p word }
+    ensures { SaidItem s.now left i u k first p nodes.old nodes.new text.old text.new keys.old keys.new (answered result) }
 {
-    if end != p {
-        return named(
-            s, nodes, text, keys, i, u, k, first, p, left, h, kind, end, at, flag,
-        );
+    if let Some(key) = word {
+        return named(s, nodes, text, keys, i, u, k, first, p, left, h, key);
     }
-    let m = expr(s, nodes, text, keys, i, u, k, p, left, false, 0);
-    if m.kind != 0 {
-        return m;
-    }
+    let m = expr(s, nodes, text, keys, i, u, k, p, left, false, 0)?;
     bare(s, nodes, i, m.count, p, m.end);
-    let c = sign_at(s, keys, first, k, p, h, m.end);
-    if c.kind != 0 {
-        return refuse(c.kind, c.at);
-    }
-    let g = space(s, c.at, false);
-    if g.kind != 0 {
-        return refuse(g.kind, g.at);
-    }
+    let c = sign_at(s, keys, first, k, p, h, m.end)?;
+    let g = space(s, c.at, false)?;
     let v = expr(
         s,
         nodes,
@@ -914,15 +801,12 @@ pub fn item(
         i + m.count,
         u + m.text,
         k,
-        g.at,
+        g,
         left,
         false,
         0,
-    );
-    if v.kind != 0 {
-        return v;
-    }
-    close(
+    )?;
+    Ok(close(
         nodes,
         i,
         m.count + v.count,
@@ -932,10 +816,10 @@ pub fn item(
         v.end,
         0,
         m.text + v.text,
-    )
+    ))
 }
 
-// An item whose key is a word from p to `end`, of a kind as a term, with a sign at `at`.
+// An item whose key is a word at p with its sign.
 #[cycle(tree)]
 pub fn named(
     s: &[u8],
@@ -949,25 +833,26 @@ pub fn named(
     p: usize,
     left: usize,
     h: u16,
-    kind: u16,
-    end: usize,
-    at: usize,
-    flag: usize,
-) -> Step
-    requires { Asked s.now keys.old i u k p × Indexed s.now keys.old first k × (h ≡ mark_at s.now p) × Word s.now p (key_of kind end at flag) }
-    ensures { SaidItem s.now left i u k first p nodes.old nodes.new text.old text.new keys.old keys.new result }
+    word: Key,
+) -> Result<Reading, Refused>
+    requires { Asked s.now keys.old i u k p × Indexed s.now keys.old first k × (h ≡ mark_at s.now p) × Word s.now p word }
+    ensures { SaidItem s.now left i u k first p nodes.old nodes.new text.old text.new keys.old keys.new (answered result) }
 {
-    name(nodes, i, kind, p, end);
+    name(nodes, i, word.kind, p, word.end);
     if find(s, keys, first, k, p, h) {
-        return refuse(Refusal::DUPLICATE, p);
+        return Err(Refusal::Duplicate.at(p));
     }
-    let g = space(s, at + 1, false);
-    if g.kind != 0 {
-        return refuse(g.kind, g.at);
-    }
-    let v = expr(s, nodes, text, keys, i + 1, u, k, g.at, left, false, 0);
-    if v.kind != 0 {
-        return v;
-    }
-    close(nodes, i, 1 + v.count, Kind::ITEM, flag, p, v.end, 0, v.text)
+    let g = space(s, word.at + 1, false)?;
+    let v = expr(s, nodes, text, keys, i + 1, u, k, g, left, false, 0)?;
+    Ok(close(
+        nodes,
+        i,
+        1 + v.count,
+        Kind::ITEM,
+        word.flag,
+        p,
+        v.end,
+        0,
+        v.text,
+    ))
 }

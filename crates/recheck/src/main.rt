@@ -3,9 +3,6 @@
 // reading of the source: 1 or 0.
 use std::io::{self, Read, Write};
 
-// The four bytes of a length, the lowest first.
-const HEAD: usize = 4;
-
 // A source that is too long to be read has the room too; a longer one ends the program.
 const SOURCE: usize = 1048576;
 
@@ -20,57 +17,15 @@ const TEXT: usize = 1048576;
 // Standard input may have no end, and a program does: so many triples at most.
 const TRIPLES: u32 = 4294967295;
 
-fn length(head: [u8; HEAD]) -> usize {
-    wide(head[0]) | wide(head[1]) << 8 | wide(head[2]) << 16 | wide(head[3]) << 24
-}
-
-fn wide(b: u8) -> usize {
-    b as usize
-}
-
-fn half(b: u8) -> u16 {
-    b as u16
-}
-
-fn pair(low: u8, high: u8) -> u16 {
-    half(low) | half(high) << 8
-}
-
-// The i-th number of a table's bytes; 0 where they have none.
-fn number(bytes: &[u8], i: usize) -> u16 {
-    if bytes.len() / 2 <= i {
-        return 0;
-    }
-    pair(bytes[2 * i], bytes[2 * i + 1])
-}
-
-// Whether the input fills all of a part.
-fn fills<R: Read>(from: &mut R, part: &mut [u8]) -> io::Result<bool> {
-    Ok(input::fill(from, part)? == part.len())
-}
-
-// The next length of the input; one that no room has where the input does not hold it.
-fn size<R: Read>(from: &mut R) -> io::Result<usize> {
-    let mut head = [0u8; HEAD];
-    if !fills(from, &mut head)? {
-        return Ok(SOURCE + 1);
-    }
-    Ok(length(head))
-}
-
 // Puts the bytes of a table together, two to a number.
 fn numbers(bytes: &[u8], table: &mut [u16]) {
-    for (i, n) in table.iter_mut().enumerate() {
-        *n = number(bytes, i);
+    for (n, two) in table.iter_mut().zip(bytes.chunks_exact(2)) {
+        *n = u16::from_le_bytes([two[0], two[1]]);
     }
 }
 
 fn show<W: Write>(out: &mut W, source: &[u8], table: &[u16], text: &[u8]) -> io::Result<()> {
-    if checker::check(source, table, text) {
-        out.write_all(b"1\n")
-    } else {
-        out.write_all(b"0\n")
-    }
+    writeln!(out, "{}", u8::from(checker::check(source, table, text)))
 }
 
 // Reads one triple into parts that have its lengths, and shows it; false where the input does not hold it.
@@ -82,13 +37,7 @@ fn triple<R: Read, W: Write>(
     table: &mut [u16],
     text: &mut [u8],
 ) -> io::Result<bool> {
-    if !fills(from, source)? {
-        return Ok(false);
-    }
-    if !fills(from, bytes)? {
-        return Ok(false);
-    }
-    if !fills(from, text)? {
+    if !input::fills(from, source)? || !input::fills(from, bytes)? || !input::fills(from, text)? {
         return Ok(false);
     }
     numbers(bytes, table);
@@ -105,9 +54,15 @@ fn one<R: Read, W: Write>(
     table: &mut [u16],
     text: &mut [u8],
 ) -> io::Result<bool> {
-    let s = size(from)?;
-    let n = size(from)?;
-    let t = size(from)?;
+    let Some(s) = input::length(from)? else {
+        return Ok(false);
+    };
+    let Some(n) = input::length(from)? else {
+        return Ok(false);
+    };
+    let Some(t) = input::length(from)? else {
+        return Ok(false);
+    };
     if source.len() < s || table.len() < n || text.len() < t {
         return Ok(false);
     }

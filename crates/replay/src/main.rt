@@ -2,9 +2,6 @@
 // Reads sources from standard input, each behind its length, and prints for each the answer, its records, its text in hex and an empty line.
 use std::io::{self, Read, Write};
 
-// The four bytes of a length, the lowest first.
-const HEAD: usize = 4;
-
 // A source that is Long has the room too; a longer one ends the program.
 const SOURCE: usize = 1048576;
 
@@ -16,19 +13,6 @@ const TEXT: usize = 65535;
 // Standard input may have no end, and a program does: so many sources at most.
 const SOURCES: u32 = 4294967295;
 
-fn length(head: [u8; HEAD]) -> usize {
-    wide(head[0]) | wide(head[1]) << 8 | wide(head[2]) << 16 | wide(head[3]) << 24
-}
-
-fn wide(b: u8) -> usize {
-    b as usize
-}
-
-// Whether the input fills all of a part.
-fn fills<R: Read>(from: &mut R, part: &mut [u8]) -> io::Result<bool> {
-    Ok(input::fill(from, part)? == part.len())
-}
-
 fn show<W: Write>(
     out: &mut W,
     source: &[u8],
@@ -37,7 +21,7 @@ fn show<W: Write>(
 ) -> io::Result<()> {
     let last = print::reading(out, source, nodes, text)?;
     print::bytes(out, &text[..last])?;
-    print::line(out)
+    writeln!(out)
 }
 
 // Reads one source and shows it; false where the input does not hold one.
@@ -48,18 +32,16 @@ fn one<R: Read, W: Write>(
     nodes: &mut [u16],
     text: &mut [u8],
 ) -> io::Result<bool> {
-    let mut head = [0u8; HEAD];
-    if !fills(from, &mut head)? {
+    let Some(n) = input::length(from)? else {
         return Ok(false);
-    }
-    let n = length(head);
+    };
     if source.len() < n {
         return Ok(false);
     }
-    if !fills(from, &mut source[0..n])? {
+    if !input::fills(from, &mut source[..n])? {
         return Ok(false);
     }
-    show(out, &source[0..n], nodes, text)?;
+    show(out, &source[..n], nodes, text)?;
     Ok(true)
 }
 

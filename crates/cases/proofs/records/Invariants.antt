@@ -1,9 +1,6 @@
 -- The bytes that are left get fewer.
-use Rattle.std.proofs.Common.{◌-◌, ◌≤◌, length}
+use Rattle.std.proofs.Common.{length}
 use Rattle.cases.proofs.records.Given as goal
 
-abbrev pub invariant-loop-i : goal.invariant-loop-i
-invariant-loop-i g l = l.i ≤ length l.b
-
-abbrev pub decreases-loop-i : goal.decreases-loop-i
-decreases-loop-i g l = length l.b - l.i
+abbrev pub decreases-loop-head : goal.decreases-loop-head
+decreases-loop-head g l = length l.rest

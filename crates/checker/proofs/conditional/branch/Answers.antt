@@ -1,25 +1,16 @@
 use mathlib.Core.Path.{refl}
-use native.Mathlib.Omega.{arith}
+use Rattle.grammar.proofs.Refusals.{numbered}
 use Rattle.checker.proofs.Conditionals.{branch_gap_no, branch_mark_no, branch_round_no, branch_by}
 use Rattle.checker.proofs.conditional.branch.Goals as goal
 
-pub returns-then-g-ne0 : goal.returns-then-g-ne0
-returns-then-g-ne0 c = branch_gap_no c.requires.2 c.space-g.ensures c.if-g-ne0.true
+pub returns-in_default : goal.returns-in_default
+returns-in_default c = branch_gap_no c.requires.2 c.in_default.ensures (numbered _)
 
 pub returns-then-e-at : goal.returns-then-e-at
-returns-then-e-at c = branch_mark_no c.requires.2 c.space-g.ensures c.if-g-ne0.false c.mark_end-e.ensures c.if-e-at.true
+returns-then-e-at c = branch_mark_no c.requires.2 c.in-Ok.ensures refl c.mark_end-e.ensures c.if-e-at.true
 
-pub returns-then-w-ne0 : goal.returns-then-w-ne0
-returns-then-w-ne0 c = branch_round_no c.requires.2 c.space-g.ensures c.if-g-ne0.false c.mark_end-e.ensures c.if-e-at.false c.space-w.ensures c.if-w-ne0.true
-
-pub overflow_sub-own : goal.overflow_sub-own
-overflow_sub-own c = omega (arith, c.requires.1)
-
-pub kid-requires : goal.kid-requires
-kid-requires c = c.requires.0
-
-pub shape_of-depths : goal.shape_of-depths
-shape_of-depths c = c.kid.ensures.long
+pub returns-in_default-space : goal.returns-in_default-space
+returns-in_default-space c = branch_round_no c.requires.2 c.in-Ok.ensures refl c.mark_end-e.ensures c.if-e-at.false c.in_default-space.ensures (numbered _)
 
 pub returns : goal.returns
-returns c = branch_by c.requires.2 c.space-g.ensures c.if-g-ne0.false c.mark_end-e.ensures c.if-e-at.false c.space-w.ensures c.if-w-ne0.false c.requires.1 refl c.requires.3 c.kid.ensures
+returns c = branch_by c.requires.2 c.in-Ok.ensures refl c.mark_end-e.ensures c.if-e-at.false c.in-Ok-space.ensures refl c.requires.1 refl c.requires.3 c.kid.ensures

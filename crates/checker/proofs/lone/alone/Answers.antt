@@ -1,9 +1,5 @@
-use mathlib.Core.Path.{sym, ◌∙◌}
 use Rattle.checker.proofs.Lones.{item_behind, item_here}
 use Rattle.checker.proofs.lone.alone.Goals as goal
-
-pub behind-requires : goal.behind-requires
-behind-requires c = (sym c.two_at.ensures ∙ c.if-two_at.true, c.requires)
 
 pub returns-then-two_at : goal.returns-then-two_at
 returns-then-two_at c = item_behind _ c.spaces-q.ensures c.behind.ensures

@@ -1,9 +1,10 @@
 use native.Mathlib.Omega.{arith}
-use mathlib.Core.Path.{sym, ◌∙◌}
+use mathlib.Core.Path.{refl, sym, ◌∙◌}
 use mathlib.Core.List.{[], ◌∷◌}
 use Rattle.lexis.specs.RunLaws.{stands_inside}
-use Rattle.checker.proofs.Goings.{after_no, after_brace, after_none}
-use Rattle.checker.proofs.Afters.{line_ended, ended_to}
+use Rattle.grammar.proofs.Refusals.{numbered}
+use Rattle.checker.proofs.Goings.{after_no, after_brace, after_none, stop_other}
+use Rattle.checker.proofs.Afters.{line_ended}
 use Rattle.checker.proofs.moves.after.Goals as goal
 
 pub overflow_add-p : goal.overflow_add-p
@@ -12,17 +13,14 @@ overflow_add-p c = omega (arith, stands_inside (10 ∷ []) c.args.s.now c.args.p
 pub over-requires : goal.over-requires
 over-requires c = line_ended c.args.s.now c.args.p (sym c.one_at.ensures ∙ c.if-one_at.true)
 
-pub returns-then-g-ne0 : goal.returns-then-g-ne0
-returns-then-g-ne0 c = after_no c.space-g.ensures c.if-g-ne0.true c.refused.ensures
+pub returns-in_default : goal.returns-in_default
+returns-in_default c = after_no c.in_default.ensures (numbered _)
 
-pub overflow_add-at : goal.overflow_add-at
-overflow_add-at c = omega (arith, stands_inside (125 ∷ []) c.args.s.now c.space-g.result.at (sym c.one_at-2.ensures ∙ c.if-one_at-2.true))
+pub overflow_add-result : goal.overflow_add-result
+overflow_add-result c = omega (arith, stands_inside (125 ∷ []) c.args.s.now c.in-Ok.at (sym c.one_at-2.ensures ∙ c.if-one_at-2.true))
 
 pub returns-then-one_at-2 : goal.returns-then-one_at-2
-returns-then-one_at-2 c = after_brace c.space-g.ensures c.if-g-ne0.false (sym c.one_at-2.ensures ∙ c.if-one_at-2.true) c.refused-then-one_at-2.ensures
+returns-then-one_at-2 c = after_brace c.in-Ok.ensures refl (sym c.one_at-2.ensures ∙ c.if-one_at-2.true)
 
-pub returns-then-x-ne-END : goal.returns-then-x-ne-END
-returns-then-x-ne-END c = after_none c.space-g.ensures c.if-g-ne0.false (sym c.one_at-2.ensures ∙ c.if-one_at-2.false) c.terminator-x.ensures c.if-x-ne-END.true c.refused-then-x-ne-END.ensures
-
-pub over-requires-2 : goal.over-requires-2
-over-requires-2 c = ended_to c.space-g.ensures c.if-g-ne0.false (sym c.one_at-2.ensures ∙ c.if-one_at-2.false) c.terminator-x.ensures c.if-x-ne-END.false
+pub returns-in_default-terminator : goal.returns-in_default-terminator
+returns-in_default-terminator c = after_none c.in-Ok.ensures refl (sym c.one_at-2.ensures ∙ c.if-one_at-2.false) c.terminator.ensures (stop_other _ _ c.in_default-terminator.not-End)

@@ -1,5 +1,6 @@
+use Rattle.grammar.specs.Said.{wanted}
 use Rattle.checker.proofs.Programs.{sits_in}
 use Rattle.checker.proofs.program.fits.Goals as goal
 
 pub returns : goal.returns
-returns c = sits_in c.args.want c.args.kind c.sits.ensures c.seat.ensures
+returns c = sits_in (wanted c.args.want) c.args.kind c.sits.ensures c.seat.ensures

@@ -7,17 +7,11 @@ use Rattle.checker.proofs.texts.texts.Goals as goal
 pub loop-j-init : goal.loop-j-init
 loop-j-init c = (c.requires.0, c.requires.1, turn_start _ _ _ _ _ _ _ _ (c.requires.0.js) (c.requires.0.chain), chain_le _ _ (c.requires.0.js) _ (c.requires.0.chain))
 
-pub shape_of-depths-then-j-i : goal.shape_of-depths-then-j-i
-shape_of-depths-then-j-i c = omega (arith, c.loop-j.invariant.2.long)
-
 pub returns-then-j-i : goal.returns-then-j-i
 returns-then-j-i c = do_shut _ _ _ _ _ _ _ _ (c.loop-j.invariant.2) (c.loop-j.invariant.0.mode) _ (c.wide.ensures.0) (c.if-j-i.true) (c.shuts.ensures)
 
 pub strand-requires : goal.strand-requires
 strand-requires c = let z = chain_le _ _ (c.loop-j.invariant.2.js) _ (c.loop-j.invariant.2.chain) in omega (arith, c.loop-j.invariant.0.within, c.if-j-i.false, z)
-
-pub shape_of-depths-then-not-strand : goal.shape_of-depths-then-not-strand
-shape_of-depths-then-not-strand c = omega (arith, c.loop-j.invariant.2.long)
 
 pub returns-then-not-strand : goal.returns-then-not-strand
 returns-then-not-strand c = do_strand_no _ _ _ _ _ _ _ _ (c.loop-j.invariant.2) (c.loop-j.invariant.0.mode) (not-true _ (c.if-not-strand.true-raw)) (c.if-j-i.false) (chain_le _ _ (c.loop-j.invariant.2.js) _ (c.loop-j.invariant.2.chain)) (c.strand.ensures)
@@ -25,20 +19,8 @@ returns-then-not-strand c = do_strand_no _ _ _ _ _ _ _ _ (c.loop-j.invariant.2) 
 pub bounds-depths-j : goal.bounds-depths-j
 bounds-depths-j c = let z = chain_le _ _ (c.loop-j.invariant.2.js) _ (c.loop-j.invariant.2.chain) in omega (arith, c.loop-j.invariant.0.deep, c.loop-j.invariant.2.long, c.if-j-i.false, z)
 
-pub overflow_mul-j : goal.overflow_mul-j
-overflow_mul-j c = omega (arith, c.loop-j.invariant.0.within, c.loop-j.invariant.3)
-
-pub overflow_add-j : goal.overflow_add-j
-overflow_add-j c = omega (arith, c.loop-j.invariant.0.within, c.loop-j.invariant.3)
-
-pub offset_bounds-table-j : goal.offset_bounds-table-j
-offset_bounds-table-j c = omega (arith, c.loop-j.invariant.0.within, c.loop-j.invariant.3)
-
 pub bounds-table-j : goal.bounds-table-j
 bounds-table-j c = let z = chain_le _ _ (c.loop-j.invariant.2.js) _ (c.loop-j.invariant.2.chain) in omega (arith, c.loop-j.invariant.0.within, c.if-j-i.false, z)
-
-pub offset_bounds-marks-j : goal.offset_bounds-marks-j
-offset_bounds-marks-j c = omega (arith, c.loop-j.invariant.0.within, c.loop-j.invariant.3)
 
 pub bounds-marks-j : goal.bounds-marks-j
 bounds-marks-j c = let z = chain_le _ _ (c.loop-j.invariant.2.js) _ (c.loop-j.invariant.2.chain) in omega (arith, c.loop-j.invariant.0.marked, c.if-j-i.false, z)

@@ -7,12 +7,6 @@ use Rattle.checker.proofs.told.keyed.Goals as goal
 pub returns-then-table-i-ne-KEY : goal.returns-then-table-i-ne-KEY
 returns-then-table-i-ne-KEY c = keyed_no
 
-pub offset_bounds-told-i : goal.offset_bounds-told-i
-offset_bounds-told-i c = omega (arith, c.requires.1.room)
-
-pub bounds-told-i : goal.bounds-told-i
-bounds-told-i c = omega (arith, c.requires.1.room)
-
 pub returns-then-told-i-ne0 : goal.returns-then-told-i-ne0
 returns-then-told-i-ne0 c = keyed_no
 

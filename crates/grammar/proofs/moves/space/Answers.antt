@@ -1,9 +1,10 @@
-use Rattle.grammar.specs.Moves as moves
-use Rattle.grammar.proofs.Leaves.{one, other, moved}
+use mathlib.Core.Path.{refl}
+use Rattle.grammar.proofs.Leaves.{moved}
+use Rattle.grammar.proofs.Refusals.{handed_on}
 use Rattle.grammar.proofs.moves.space.Goals as goal
 
-pub returns-then-g : goal.returns-then-g
-returns-then-g c = moved c.skip-g.ensures (one (c.skip-g.result.unclosed) (moves.no 6 c.skip-g.result.at) (moves.to c.skip-g.result.at) c.if-g.true c.refused.ensures)
+pub returns : goal.returns
+returns c = moved c.in_ok-skip.ensures refl
 
-pub returns-else-g : goal.returns-else-g
-returns-else-g c = moved c.skip-g.ensures (other (c.skip-g.result.unclosed) (moves.no 6 c.skip-g.result.at) (moves.to c.skip-g.result.at) c.if-g.false c.gone.ensures)
+pub returns-in_err-skip : goal.returns-in_err-skip
+returns-in_err-skip c = rw (handed_on c.from_residual.result _ c.from_residual.ensures.1) (moved c.in_err-skip.ensures refl)

@@ -1,4 +1,4 @@
-use mathlib.Core.Path.{sym, ◌∙◌}
+use mathlib.Core.Path.{refl, sym, ◌∙◌}
 use Rattle.lexis.specs.Bytes.{byte_at}
 use Rattle.grammar.specs.Moves as moves
 use lib.Dec.{eqb}
@@ -10,4 +10,4 @@ pub returns-then-byte_at-x : goal.returns-then-byte_at-x
 returns-then-byte_at-x c = unless_is c.args.x (one (eqb (byte_at c.args.s.now c.args.p) c.args.x) (moves.unexpected c.args.s.now c.args.p) (moves.to c.args.p) (eq-eqb _ _ (sym c.byte_at.ensures.is ∙ c.if-byte_at-x.true)) c.unexpected.ensures)
 
 pub returns-else-byte_at-x : goal.returns-else-byte_at-x
-returns-else-byte_at-x c = unless_is c.args.x (other (eqb (byte_at c.args.s.now c.args.p) c.args.x) (moves.unexpected c.args.s.now c.args.p) (moves.to c.args.p) (ne_eqb _ _ (λ e. c.if-byte_at-x.false (c.byte_at.ensures.is ∙ e))) c.gone.ensures)
+returns-else-byte_at-x c = unless_is c.args.x (other (eqb (byte_at c.args.s.now c.args.p) c.args.x) (moves.unexpected c.args.s.now c.args.p) (moves.to c.args.p) (ne_eqb _ _ (λ e. c.if-byte_at-x.false (c.byte_at.ensures.is ∙ e))) refl)

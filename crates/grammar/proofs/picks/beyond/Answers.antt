@@ -1,8 +1,9 @@
+use mathlib.Core.Path.{refl}
 use Rattle.grammar.proofs.Callings.{beyond_open, beyond_shut}
 use Rattle.grammar.proofs.picks.beyond.Goals as goal
 
-pub returns-then-g : goal.returns-then-g
-returns-then-g c = beyond_open c.skip-g.ensures c.if-g.true
+pub returns-in-Ok : goal.returns-in-Ok
+returns-in-Ok c = beyond_shut c.in-Ok.ensures refl c.byte_at.ensures
 
-pub returns-else-g : goal.returns-else-g
-returns-else-g c = beyond_shut c.skip-g.ensures c.if-g.false c.byte_at.ensures
+pub returns-in-Err : goal.returns-in-Err
+returns-in-Err c = beyond_open c.in-Err.ensures refl

@@ -1,3 +1,8 @@
+use Prim.Native.Nat.{ℕ}
+use mathlib.Core.Path.{refl}
+use Rattle.lexis.specs.Word.{constant_at}
+use Rattle.grammar.specs.Alone.{head_of, HeadAt}
+use Rattle.grammar.proofs.Callings.{kind_by}
 use borrow.Author.Tests.{not-false}
 use Rattle.lexis.specs.Bytes.{is_digit, is_start}
 use Rattle.grammar.proofs.Leaves.{tested}
@@ -13,8 +18,5 @@ returns-then-not-is_start c = head_other c.args.lines c.term_at-k.ensures c.head
 pub returns-then-calls : goal.returns-then-calls
 returns-then-calls c = head_call c.args.lines (tested is_digit c.byte_at-b.ensures c.is_digit.ensures c.if-is_digit.false) (tested is_start c.byte_at-b.ensures c.is_start.ensures (not-false c.is_start.result c.if-not-is_start.false-raw)) c.ident_end-e.ensures c.calls.ensures c.if-calls.true c.headed-then-calls.ensures
 
-pub returns-then-k-ne0 : goal.returns-then-k-ne0
-returns-then-k-ne0 c = head_constant c.args.lines (tested is_digit c.byte_at-b.ensures c.is_digit.ensures c.if-is_digit.false) (tested is_start c.byte_at-b.ensures c.is_start.ensures (not-false c.is_start.result c.if-not-is_start.false-raw)) c.ident_end-e.ensures c.calls.ensures c.if-calls.false c.constant_at-k.ensures c.if-k-ne0.true c.headed-then-k-ne0.ensures
-
 pub returns : goal.returns
-returns c = head_variable c.args.lines (tested is_digit c.byte_at-b.ensures c.is_digit.ensures c.if-is_digit.false) (tested is_start c.byte_at-b.ensures c.is_start.ensures (not-false c.is_start.result c.if-not-is_start.false-raw)) c.ident_end-e.ensures c.calls.ensures c.if-calls.false c.constant_at-k.ensures c.if-k-ne0.false c.headed-2.ensures
+returns c = rw c.headed-2.ensures (kind_by (λ (k : ℕ). HeadAt c.args.s.now c.args.p c.args.lines (head_of k c.ident_end-e.result)) (constant_at c.args.s.now c.args.p) c.constant_at.ensures c.unwrap_or.ensures (λ n. head_constant c.args.lines (tested is_digit c.byte_at-b.ensures c.is_digit.ensures c.if-is_digit.false) (tested is_start c.byte_at-b.ensures c.is_start.ensures (not-false c.is_start.result c.if-not-is_start.false-raw)) c.ident_end-e.ensures c.calls.ensures c.if-calls.false refl n refl) (λ n. head_variable c.args.lines (tested is_digit c.byte_at-b.ensures c.is_digit.ensures c.if-is_digit.false) (tested is_start c.byte_at-b.ensures c.is_start.ensures (not-false c.is_start.result c.if-not-is_start.false-raw)) c.ident_end-e.ensures c.calls.ensures c.if-calls.false refl n refl))

@@ -1,11 +1,12 @@
-use Rattle.grammar.proofs.Callings.{word_call, word_some, word_none}
+use Prim.Native.Nat.{ℕ}
+use mathlib.Core.Path.{refl, ◌≡◌}
+use Rattle.lexis.specs.Word.{constant_at}
+use Rattle.grammar.specs.Said.{word_kind}
+use Rattle.grammar.proofs.Callings.{word_call, word_some, word_none, kind_by}
 use Rattle.grammar.proofs.picks.word_at.Goals as goal
 
 pub returns-then-calls : goal.returns-then-calls
 returns-then-calls c = word_call c.args.lines c.ident_end-e.ensures c.calls.ensures c.if-calls.true
 
-pub returns-then-k-ne0 : goal.returns-then-k-ne0
-returns-then-k-ne0 c = word_some c.args.lines c.ident_end-e.ensures c.calls.ensures c.if-calls.false c.constant_at-k.ensures c.if-k-ne0.true
-
-pub returns-else-k-ne0 : goal.returns-else-k-ne0
-returns-else-k-ne0 c = word_none c.args.lines c.ident_end-e.ensures c.calls.ensures c.if-calls.false c.constant_at-k.ensures c.if-k-ne0.false
+pub returns : goal.returns
+returns c = kind_by (λ (k : ℕ). k ≡ word_kind c.args.s.now c.args.lines c.args.p) (constant_at c.args.s.now c.args.p) c.constant_at.ensures c.unwrap_or.ensures (λ n. word_some c.args.lines c.ident_end-e.ensures c.calls.ensures c.if-calls.false refl n) (λ n. word_none c.args.lines c.ident_end-e.ensures c.calls.ensures c.if-calls.false refl n)

@@ -1,6 +1,5 @@
 -- The first byte says which key it is.
 use mathlib.Core.Path.{sym, ◌∙◌}
-use borrow.Author.Tests.{not-true, not-false}
 use Rattle.index.proofs.Marks.{mark_text, mark_none, mark_word}
 use Rattle.index.proofs.mark.mark.Goals as goal
 
@@ -8,7 +7,7 @@ pub returns-then-b-eq34 : goal.returns-then-b-eq34
 returns-then-b-eq34 c = mark_text c.byte_at-b.ensures c.if-b-eq34.true c.text.ensures
 
 pub returns-then-not-is_start : goal.returns-then-not-is_start
-returns-then-not-is_start c = mark_none c.byte_at-b.ensures c.if-b-eq34.false (sym c.is_start.ensures ∙ not-true _ c.if-not-is_start.true-raw)
+returns-then-not-is_start c = mark_none c.byte_at-b.ensures c.if-b-eq34.false (sym c.is_start.ensures ∙ c.if-not-is_start.true)
 
 pub returns : goal.returns
-returns c = mark_word c.byte_at-b.ensures c.if-b-eq34.false (sym c.is_start.ensures ∙ not-false _ c.if-not-is_start.false-raw) c.word.ensures
+returns c = mark_word c.byte_at-b.ensures c.if-b-eq34.false (sym c.is_start.ensures ∙ c.if-not-is_start.false) c.word.ensures

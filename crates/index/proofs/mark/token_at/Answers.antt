@@ -1,12 +1,7 @@
 -- The first byte says which key it is.
 use mathlib.Core.Path.{sym, ◌∙◌}
-use Rattle.lexis.specs.Bytes.{is_start}
-use Rattle.lexis.proofs.Runs.{tested}
 use Rattle.index.proofs.Marks.{token_none, token_text}
 use Rattle.index.proofs.mark.token_at.Goals as goal
-
-pub word_at-requires : goal.word_at-requires
-word_at-requires c = tested is_start c.byte_at-b.ensures c.is_start.ensures c.if-is_start.true
 
 pub returns-then-b-ne34 : goal.returns-then-b-ne34
 returns-then-b-ne34 c = token_none c.byte_at-b.ensures c.if-b-ne34.true (sym c.is_start.ensures ∙ c.if-is_start.false)

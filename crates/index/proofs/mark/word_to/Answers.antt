@@ -1,30 +1,23 @@
+use Prim.Native.Nat.{◌+◌}
 use native.Mathlib.Omega.{arith}
-use Rattle.index.proofs.Marks.{wording_start, wording_inside, wording_more, wording_end, byte_here}
+use mathlib.Core.Path.{◌≡◌}
+use Rattle.lexis.proofs.Blocks.{part_over, part_inside}
+use Rattle.index.proofs.Marks.{wording_start, wording_more, wording_end, word_within, part_here}
 use Rattle.index.proofs.mark.word_to.Goals as goal
 
-pub loop-i-init : goal.loop-i-init
-loop-i-init c = wording_start c.args.s.now c.args.p c.args.e c.requires
+pub slice_bounds-b-items-end : goal.slice_bounds-b-items-end
+slice_bounds-b-items-end c = omega (arith, word_within c.requires)
 
-pub bounds-s-i : goal.bounds-s-i
-bounds-s-i c = omega (arith, wording_inside c.loop-i.invariant c.loop-i-test.true)
+pub loop-b-init : goal.loop-b-init
+loop-b-init c = let z : c.args.p + 0 ≡ c.args.p = omega arith in rw z (wording_start c.args.s.now c.args.p c.args.e c.requires)
 
-pub overflow_cast-s : goal.overflow_cast-s
-overflow_cast-s c = omega (arith, c.shared_slice_known-in-loop-i-1.given c.loop-i.i)
-
-pub mix-m-requires : goal.mix-m-requires
-mix-m-requires c = omega (arith, c.shared_slice_known-in-loop-i-1.given c.loop-i.i, c.loop-i.invariant.mixing.small)
-
-pub overflow_add-i : goal.overflow_add-i
-overflow_add-i c = omega (arith, wording_inside c.loop-i.invariant c.loop-i-test.true)
-
-pub loop-i-smaller : goal.loop-i-smaller
-loop-i-smaller c = omega (arith, c.loop-i-test.true)
-
-pub loop-i-preserved : goal.loop-i-preserved
-loop-i-preserved c = wording_more c.loop-i.invariant c.loop-i-test.true (byte_here _ _ (wording_inside c.loop-i.invariant c.loop-i-test.true) (omega (arith, c.shared_slice_known-in-loop-i-1.given c.loop-i.i))) c.mix-m.ensures
-
-pub overflow_cast-result : goal.overflow_cast-result
-overflow_cast-result c = omega (arith, c.loop-i.invariant.mixing.small)
+pub loop-b-preserved : goal.loop-b-preserved
+loop-b-preserved c =
+    let h = (word_within c.requires).1 in
+    let z : c.args.p + (c.loop-b.b-index + 1) ≡ c.args.p + c.loop-b.b-index + 1 = omega arith in
+    rw z
+    (wording_more c.loop-b.invariant (part_inside c.args.s.now c.args.p c.args.e c.loop-b.b-index h c.loop-b-test.true)
+    (part_here c.args.s.now c.args.p c.args.e c.loop-b.b-index h c.loop-b-test.true c.from.ensures (λ i. omega (arith, c.type_inv.s i))) c.mix-m.ensures)
 
 pub returns : goal.returns
-returns c = wording_end c.loop-i.invariant c.requires c.loop-i-test.false
+returns c = wording_end c.loop-b.invariant c.requires (part_over c.args.s.now c.args.p c.args.e c.loop-b.b-index (word_within c.requires).1 c.loop-b-test.false)

@@ -1,30 +1,12 @@
--- The loop keeps the end of the run of digits.
-use Rattle.lexis.specs.RunLaws.{inside, run_on, run_stop}
-use Rattle.lexis.proofs.Runs.{tested}
 use Rattle.lexis.specs.Bytes.{is_digit}
-use borrow.Author.Tests.{not-true, not-false}
-use mathlib.Core.Path.{refl, sym, ◌∙◌}
-use native.Mathlib.Omega.{arith}
+use Rattle.lexis.proofs.Runs.{tested, running_on, running_stop, running_end}
 use Rattle.lexis.proofs.number.digits_end.Goals as goal
 
-pub loop-p-init : goal.loop-p-init
-loop-p-init c = (omega arith, omega arith, refl)
-
 pub returns-then-not-is_digit : goal.returns-then-not-is_digit
-returns-then-not-is_digit c = record {
-  is = sym (run_stop is_digit c.args.s.now c.loop-p.i (tested is_digit c.byte_at-b.ensures c.is_digit.ensures (not-true _ c.if-not-is_digit.true-raw))) ∙ c.loop-p.invariant.2;
-  low = omega arith;
-  high = omega arith;
-}
+returns-then-not-is_digit c = running_stop c.loop-i.invariant (tested is_digit c.byte_at.ensures c.is_digit.ensures c.if-not-is_digit.true)
 
-pub overflow_add-i : goal.overflow_add-i
-overflow_add-i c = omega (arith, inside is_digit c.args.s.now c.loop-p.i refl (tested is_digit c.byte_at-b.ensures c.is_digit.ensures (not-false _ c.if-not-is_digit.false-raw)))
+pub loop-i-preserved : goal.loop-i-preserved
+loop-i-preserved c = running_on c.loop-i.invariant c.loop-i-test.true (tested is_digit c.byte_at.ensures c.is_digit.ensures c.if-not-is_digit.false)
 
-pub loop-p-smaller : goal.loop-p-smaller
-loop-p-smaller c = omega (arith, inside is_digit c.args.s.now c.loop-p.i refl (tested is_digit c.byte_at-b.ensures c.is_digit.ensures (not-false _ c.if-not-is_digit.false-raw)))
-
-pub loop-p-preserved : goal.loop-p-preserved
-loop-p-preserved c = let a = c.args in
-    let e = tested is_digit c.byte_at-b.ensures c.is_digit.ensures (not-false _ c.if-not-is_digit.false-raw) in
-    let h = inside is_digit a.s.now c.loop-p.i refl e in
-    (omega arith, omega arith, run_on is_digit a.s.now c.loop-p.i h e ∙ c.loop-p.invariant.2)
+pub returns : goal.returns
+returns c = running_end c.loop-i.invariant c.loop-i-test.false c.max.ensures

@@ -1,23 +1,11 @@
-use Rattle.lexis.proofs.Numbers.{no_digit, a_digit, no_exponent, exponent}
+use Rattle.lexis.proofs.Numbers.{no_digit, a_digit, exponent}
 use Rattle.lexis.specs.RunLaws.{inside}
 use Rattle.lexis.proofs.Runs.{tested}
 use Rattle.lexis.specs.Number.{is_exponent}
-use borrow.Author.Tests.{not-true, not-false}
+use borrow.Author.Tests.{not-false}
 use mathlib.Core.Path.{refl, sym, ◌∙◌}
 use native.Mathlib.Omega.{arith}
 use Rattle.lexis.proofs.number.exponent_end.Goals as goal
-
-pub returns-then-not-is_exponent : goal.returns-then-not-is_exponent
-returns-then-not-is_exponent c = let a = c.args in
-    record {
-      is = sym (no_exponent a.s.now a.p (tested is_exponent c.byte_at-b.ensures c.is_exponent.ensures (not-true _ c.if-not-is_exponent.true-raw)));
-      low = omega arith;
-      high = omega arith;
-    }
-
-pub overflow_add-p : goal.overflow_add-p
-overflow_add-p c = let a = c.args in
-    omega (arith, inside is_exponent a.s.now a.p refl (tested is_exponent c.byte_at-b.ensures c.is_exponent.ensures (not-false _ c.if-not-is_exponent.false-raw)))
 
 pub returns-then-e-d : goal.returns-then-e-d
 returns-then-e-d c = let a = c.args in

@@ -1,16 +1,8 @@
 use Prim.Native.Nat.{◌+◌}
-use Rattle.lexis.proofs.Numbers.{no_digit, a_digit, no_fraction, fraction}
+use Rattle.lexis.proofs.Numbers.{no_digit, a_digit, fraction}
 use mathlib.Core.Path.{sym, ◌∙◌}
 use native.Mathlib.Omega.{arith}
 use Rattle.lexis.proofs.number.fraction_end.Goals as goal
-
-pub returns-then-b-ne46 : goal.returns-then-b-ne46
-returns-then-b-ne46 c = let a = c.args in
-    record {
-      is = sym (no_fraction a.s.now a.p (λ e. c.if-b-ne46.true (c.byte_at-b.ensures.is ∙ e)));
-      low = omega arith;
-      high = omega arith;
-    }
 
 pub returns-then-e-p : goal.returns-then-e-p
 returns-then-e-p c = let a = c.args in

@@ -1,15 +1,6 @@
-use Rattle.lexis.proofs.Numbers.{no_digit, a_digit, no_number, number_is}
-use mathlib.Core.Path.{sym}
+use Rattle.lexis.proofs.Numbers.{a_digit, number_is}
 use native.Mathlib.Omega.{arith}
 use Rattle.lexis.proofs.number.number_end.Goals as goal
-
-pub returns-then-d-p : goal.returns-then-d-p
-returns-then-d-p c = let a = c.args in
-    record {
-      is = sym (no_number a.s.now a.p (no_digit a.s.now a.p c.digits_end-d.ensures c.if-d-p.true));
-      low = omega arith;
-      high = omega arith;
-    }
 
 pub returns : goal.returns
 returns c = let a = c.args in

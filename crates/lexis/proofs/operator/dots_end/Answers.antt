@@ -1,4 +1,4 @@
-use Rattle.lexis.proofs.Operators.{mark_off, mark_by_lem, marked}
+use Rattle.lexis.proofs.Operators.{mark_by_lem, marked}
 use Rattle.lexis.specs.RunLaws.{stands_inside}
 use mathlib.Core.List.{[], ◌∷◌}
 use mathlib.Core.Path.{refl, sym, ◌∙◌}
@@ -12,7 +12,3 @@ overflow_add-result c = let a = c.args in
 pub returns-then-all_at : goal.returns-then-all_at
 returns-then-all_at c = let a = c.args in
     marked (46 ∷ 46 ∷ 46 ∷ []) [] a.s.now a.p (sym (mark_by_lem (46 ∷ 46 ∷ 46 ∷ []) [] a.s.now a.p (sym c.all_at.ensures ∙ c.if-all_at.true) refl))
-
-pub returns-else-all_at : goal.returns-else-all_at
-returns-else-all_at c = let a = c.args in
-    marked (46 ∷ 46 ∷ 46 ∷ []) [] a.s.now a.p (sym (mark_off (46 ∷ 46 ∷ 46 ∷ []) [] a.s.now a.p (sym c.all_at.ensures ∙ c.if-all_at.false)))

@@ -1,14 +1,10 @@
-use Rattle.lexis.proofs.Operators.{mark_off, marked, lone}
+use Rattle.lexis.proofs.Operators.{marked, lone}
 use Rattle.lexis.specs.RunLaws.{stands_inside}
-use borrow.Author.Tests.{not-true, not-false}
+use borrow.Author.Tests.{not-false}
 use mathlib.Core.List.{[], ◌∷◌}
 use mathlib.Core.Path.{sym, ◌∙◌}
 use native.Mathlib.Omega.{arith}
 use Rattle.lexis.proofs.operator.lone_end.Goals as goal
-
-pub returns-then-not-one_at : goal.returns-then-not-one_at
-returns-then-not-one_at c = let a = c.args in
-    marked (a.a ∷ []) ((a.a ∷ a.b ∷ []) ∷ []) a.s.now a.p (sym (mark_off (a.a ∷ []) ((a.a ∷ a.b ∷ []) ∷ []) a.s.now a.p (sym c.one_at.ensures ∙ not-true _ c.if-not-one_at.true-raw)))
 
 pub overflow_add-p : goal.overflow_add-p
 overflow_add-p c = let a = c.args in

@@ -1,4 +1,4 @@
-use Rattle.lexis.proofs.Operators.{mark_off, mark_by_lem, marked}
+use Rattle.lexis.proofs.Operators.{mark_by_lem, marked}
 use Rattle.lexis.specs.RunLaws.{stands_inside}
 use mathlib.Core.List.{[], ◌∷◌}
 use mathlib.Core.Path.{refl, sym, ◌∙◌}
@@ -12,7 +12,3 @@ overflow_add-result c = let a = c.args in
 pub returns-then-one_at : goal.returns-then-one_at
 returns-then-one_at c = let a = c.args in
     marked (a.b ∷ []) [] a.s.now a.p (sym (mark_by_lem (a.b ∷ []) [] a.s.now a.p (sym c.one_at.ensures ∙ c.if-one_at.true) refl))
-
-pub returns-else-one_at : goal.returns-else-one_at
-returns-else-one_at c = let a = c.args in
-    marked (a.b ∷ []) [] a.s.now a.p (sym (mark_off (a.b ∷ []) [] a.s.now a.p (sym c.one_at.ensures ∙ c.if-one_at.false)))

@@ -1,4 +1,4 @@
-use Rattle.lexis.proofs.Operators.{mark_off, mark_by_lem, marked}
+use Rattle.lexis.proofs.Operators.{mark_by_lem, marked}
 use Rattle.lexis.specs.RunLaws.{stands_inside}
 use mathlib.Core.List.{[], ◌∷◌}
 use mathlib.Core.Path.{refl, sym, ◌∙◌}
@@ -12,7 +12,3 @@ overflow_add-result c = let a = c.args in
 pub returns-then-two_at : goal.returns-then-two_at
 returns-then-two_at c = let a = c.args in
     marked (a.a ∷ a.b ∷ []) [] a.s.now a.p (sym (mark_by_lem (a.a ∷ a.b ∷ []) [] a.s.now a.p (sym c.two_at.ensures ∙ c.if-two_at.true) refl))
-
-pub returns-else-two_at : goal.returns-else-two_at
-returns-else-two_at c = let a = c.args in
-    marked (a.a ∷ a.b ∷ []) [] a.s.now a.p (sym (mark_off (a.a ∷ a.b ∷ []) [] a.s.now a.p (sym c.two_at.ensures ∙ c.if-two_at.false)))

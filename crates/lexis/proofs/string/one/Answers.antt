@@ -1,8 +1,8 @@
-use mathlib.Core.Path.{refl, ◌∙◌}
-use mathlib.Core.List.{[], ◌∷◌}
-use mathlib.Core.Bool.{true}
-use Rattle.lexis.proofs.Spelling.{packs, pack_one}
+use Prim.Native.Nat.{ℕ}
+use mathlib.Core.Path.{ap, ◌∙◌}
+use Rattle.lexis.specs.String.{made_of}
+use Rattle.lexis.proofs.Spelling.{pack_one}
 use Rattle.lexis.proofs.string.one.Goals as goal
 
 pub returns : goal.returns
-returns c = c.made.ensures ∙ packs c.args.width c.args.b 1 (c.args.b ∷ []) true (pack_one c.args.b) refl
+returns c = c.made.ensures ∙ ap (λ (x : ℕ). made_of c.args.width x 1) (pack_one c.args.b)

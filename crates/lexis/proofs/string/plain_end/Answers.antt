@@ -2,28 +2,18 @@
 use Rattle.lexis.specs.RunLaws.{inside, run_on, run_stop}
 use Rattle.lexis.proofs.Runs.{tested}
 use Rattle.lexis.specs.String.{plain_in}
-use borrow.Author.Tests.{not-true, not-false}
 use mathlib.Core.Path.{refl, sym, ◌∙◌}
 use native.Mathlib.Omega.{arith}
 use Rattle.lexis.proofs.string.plain_end.Goals as goal
 
-pub loop-p-init : goal.loop-p-init
-loop-p-init c = (omega arith, omega arith, refl)
-
 pub returns-then-not-is_plain : goal.returns-then-not-is_plain
 returns-then-not-is_plain c = record {
-  is = sym (run_stop (plain_in c.args.quoted) c.args.s.now c.loop-p.i (tested (plain_in c.args.quoted) c.byte_at-b.ensures c.is_plain.ensures (not-true _ c.if-not-is_plain.true-raw))) ∙ c.loop-p.invariant.2;
+  is = sym (run_stop (plain_in c.args.quoted) c.args.s.now c.loop-p.i (tested (plain_in c.args.quoted) c.byte_at-b.ensures c.is_plain.ensures (c.if-not-is_plain.true))) ∙ c.loop-p.invariant.2;
   low = omega arith;
   high = omega arith;
 }
 
-pub overflow_add-i : goal.overflow_add-i
-overflow_add-i c = omega (arith, inside (plain_in c.args.quoted) c.args.s.now c.loop-p.i refl (tested (plain_in c.args.quoted) c.byte_at-b.ensures c.is_plain.ensures (not-false _ c.if-not-is_plain.false-raw)))
-
-pub loop-p-smaller : goal.loop-p-smaller
-loop-p-smaller c = omega (arith, inside (plain_in c.args.quoted) c.args.s.now c.loop-p.i refl (tested (plain_in c.args.quoted) c.byte_at-b.ensures c.is_plain.ensures (not-false _ c.if-not-is_plain.false-raw)))
-
 pub loop-p-preserved : goal.loop-p-preserved
-loop-p-preserved c = let e = tested (plain_in c.args.quoted) c.byte_at-b.ensures c.is_plain.ensures (not-false _ c.if-not-is_plain.false-raw) in
+loop-p-preserved c = let e = tested (plain_in c.args.quoted) c.byte_at-b.ensures c.is_plain.ensures (c.if-not-is_plain.false) in
     let h = inside (plain_in c.args.quoted) c.args.s.now c.loop-p.i refl e in
     (omega arith, omega arith, run_on (plain_in c.args.quoted) c.args.s.now c.loop-p.i h e ∙ c.loop-p.invariant.2)

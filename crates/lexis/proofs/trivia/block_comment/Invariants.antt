@@ -6,7 +6,4 @@ use mathlib.Core.Path.{◌≡◌}
 use Rattle.lexis.proofs.trivia.block_comment.Given as goal
 
 abbrev pub invariant-loop-i : goal.invariant-loop-i
-invariant-loop-i l = (l.p + 3 ≤ l.i) × (l.i ≤ length l.s + 1) × (reach closes l.s (l.i - 1) ≡ reach closes l.s (l.p + 2))
-
-abbrev pub decreases-loop-i : goal.decreases-loop-i
-decreases-loop-i l = length l.s - l.i
+invariant-loop-i l = (l.i ≤ length l.s + 1) × (reach closes l.s (l.i - 1) ≡ reach closes l.s (l.p + 2))

@@ -21,10 +21,6 @@ returns-then-b-ne13 c = let a = c.args in
       inside = omega arith;
     }
 
-pub overflow_add-p : goal.overflow_add-p
-overflow_add-p c = let a = c.args in
-    omega (arith, here a.s.now a.p)
-
 pub returns-then-one_at : goal.returns-then-one_at
 returns-then-one_at c = let a = c.args in
     record {

@@ -6,6 +6,3 @@ use Rattle.lexis.proofs.trivia.lf_at.Given as goal
 
 abbrev pub invariant-loop-i : goal.invariant-loop-i
 invariant-loop-i l = (l.p ≤ l.i) × (l.i ≤ l.p + (length l.s - l.p)) × (line_comment l.i (drop l.i l.s) ≡ line_comment l.p (drop l.p l.s))
-
-abbrev pub decreases-loop-i : goal.decreases-loop-i
-decreases-loop-i l = length l.s - l.i

@@ -14,8 +14,8 @@ returns-then-i-s c = let s = c.args.s.now in
       high = omega arith;
     }
 
-pub returns : goal.returns
-returns c = let s = c.args.s.now in
+pub returns-else-i-s : goal.returns-else-i-s
+returns-else-i-s c = let s = c.args.s.now in
     record {
       is = comment_cut s _ c.if-i-s.false (reach_end ends_line s _ c.if-i-s.false) ∙ c.lf_at-i.ensures.is;
       low = omega arith;

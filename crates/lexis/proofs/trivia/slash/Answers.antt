@@ -1,15 +1,9 @@
 -- What starts with a slash, from the byte after it.
-use Rattle.lexis.specs.RunLaws.{here}
 use Rattle.lexis.proofs.Trivias.{item_block, item_slash, item_slashes, item_comment, comment_slashes}
 use Rattle.lexis.specs.Trivia.{placed}
-use borrow.Author.Tests.{not-true, not-false}
 use mathlib.Core.Path.{sym, ap, ◌∙◌}
 use native.Mathlib.Omega.{arith}
 use Rattle.lexis.proofs.trivia.slash.Goals as goal
-
-pub overflow_add-p : goal.overflow_add-p
-overflow_add-p c = let a = c.args in
-    omega (arith, here a.s.now a.p)
 
 pub returns-then-c-eq42 : goal.returns-then-c-eq42
 returns-then-c-eq42 c = let a = c.args in
@@ -30,15 +24,23 @@ returns-then-c-ne47 c = let a = c.args in
 pub returns-then-not-lines : goal.returns-then-not-lines
 returns-then-not-lines c = let a = c.args in
     record {
-      is = sym (ap (placed a.p) (item_slashes a.s.now a.p a.lines (not-true _ c.if-not-lines.true-raw) c.requires (sym c.byte_at-c.ensures.is ∙ c.if-c-ne47.false)));
+      is = sym (ap (placed a.p) (item_slashes a.s.now a.p a.lines (c.if-not-lines.true) c.requires (sym c.byte_at-c.ensures.is ∙ c.if-c-ne47.false)));
       low = omega arith;
       high = omega arith;
     }
 
-pub returns : goal.returns
-returns c = let a = c.args in
+pub returns-in-Ok : goal.returns-in-Ok
+returns-in-Ok c = let a = c.args in
     record {
-      is = item_comment a.s.now a.p a.lines (not-false _ c.if-not-lines.false-raw) (c.line_comment-e.ensures.is ∙ comment_slashes a.s.now a.p c.requires (sym c.byte_at-c.ensures.is ∙ c.if-c-ne47.false)) c.requires (sym c.byte_at-c.ensures.is ∙ c.if-c-ne47.false);
-      low = omega arith;
-      high = omega arith;
+      is = item_comment a.s.now a.p a.lines (c.if-not-lines.false) (c.in-Ok.ensures.is ∙ comment_slashes a.s.now a.p c.requires (sym c.byte_at-c.ensures.is ∙ c.if-c-ne47.false)) c.requires (sym c.byte_at-c.ensures.is ∙ c.if-c-ne47.false);
+      low = omega (arith, c.in-Ok.ensures.low);
+      high = omega (arith, c.in-Ok.ensures.high);
+    }
+
+pub returns-in-Ok-2 : goal.returns-in-Ok-2
+returns-in-Ok-2 c = let a = c.args in
+    record {
+      is = item_comment a.s.now a.p a.lines (c.if-not-lines.false) (c.in-Ok.ensures.is ∙ comment_slashes a.s.now a.p c.requires (sym c.byte_at-c.ensures.is ∙ c.if-c-ne47.false)) c.requires (sym c.byte_at-c.ensures.is ∙ c.if-c-ne47.false);
+      low = omega (arith, c.in-Ok.ensures.low);
+      high = omega (arith, c.in-Ok.ensures.high);
     }

@@ -17,17 +17,17 @@ returns-then-b-eq44 c = let a = c.args in
 pub returns-then-b-eq35 : goal.returns-then-b-eq35
 returns-then-b-eq35 c = let a = c.args in
     record {
-      is = c.line_comment.ensures.is ∙ comment_hash a.s.now a.p (sym c.byte_at-b.ensures.is ∙ c.if-b-eq35.true) ∙ sym (stop_hash a.s.now a.p (sym c.byte_at-b.ensures.is ∙ c.if-b-eq35.true));
-      low = omega arith;
-      high = omega arith;
+      is = (c.comment_stop.ensures a.p).is ∙ comment_hash a.s.now a.p (sym c.byte_at-b.ensures.is ∙ c.if-b-eq35.true) ∙ sym (stop_hash a.s.now a.p (sym c.byte_at-b.ensures.is ∙ c.if-b-eq35.true));
+      low = omega (arith, (c.comment_stop.ensures a.p).low);
+      high = omega (arith, (c.comment_stop.ensures a.p).high);
     }
 
 pub returns-then-one_at : goal.returns-then-one_at
 returns-then-one_at c = let a = c.args in
     record {
-      is = c.line_comment-then-one_at.ensures.is ∙ comment_slashes a.s.now a.p (sym c.byte_at-b.ensures.is ∙ c.if-b-eq47.true) (stop_slashes a.s.now a.p c.one_at.ensures c.if-one_at.true) ∙ sym (stop_slash a.s.now a.p (sym c.byte_at-b.ensures.is ∙ c.if-b-eq47.true) c.one_at.ensures ∙ rw c.if-one_at.true);
-      low = omega arith;
-      high = omega (arith, here a.s.now (a.p + 1), stop_slashes a.s.now a.p c.one_at.ensures c.if-one_at.true);
+      is = (c.comment_stop-then-one_at.ensures a.p).is ∙ comment_slashes a.s.now a.p (sym c.byte_at-b.ensures.is ∙ c.if-b-eq47.true) (stop_slashes a.s.now a.p c.one_at.ensures c.if-one_at.true) ∙ sym (stop_slash a.s.now a.p (sym c.byte_at-b.ensures.is ∙ c.if-b-eq47.true) c.one_at.ensures ∙ rw c.if-one_at.true);
+      low = omega (arith, (c.comment_stop-then-one_at.ensures a.p).low);
+      high = omega (arith, (c.comment_stop-then-one_at.ensures a.p).high, here a.s.now (a.p + 1), stop_slashes a.s.now a.p c.one_at.ensures c.if-one_at.true);
     }
 
 pub returns-then-b-eq47 : goal.returns-then-b-eq47

@@ -5,10 +5,7 @@ use Rattle.lexis.specs.Utf8.{first_bad}
 use Rattle.lexis.proofs.utf8.first_bad.Given as goal
 
 abbrev pub invariant-loop-n : goal.invariant-loop-n
-invariant-loop-n l = (l.n ≤ 64) × (l.initial.i + l.n ≤ l.i) × (l.i ≤ length l.s) × (l.i + first_bad (drop l.i l.s) ≡ first_bad l.s)
-
-abbrev pub decreases-loop-n : goal.decreases-loop-n
-decreases-loop-n l = 64 - l.n
+invariant-loop-n l = (l.initial.i + l._n ≤ l.i) × (l.i ≤ length l.s) × (l.i + first_bad (drop l.i l.s) ≡ first_bad l.s)
 
 abbrev pub invariant-loop-i : goal.invariant-loop-i
 invariant-loop-i l = (l.i ≤ length l.s) × (l.i + first_bad (drop l.i l.s) ≡ first_bad l.s)

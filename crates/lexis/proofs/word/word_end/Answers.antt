@@ -1,31 +1,15 @@
 use Rattle.lexis.specs.RunLaws.{stands_inside}
 use Rattle.lexis.proofs.Runs.{tested}
-use Rattle.lexis.proofs.Words.{word_off, word_on}
+use Rattle.lexis.proofs.Words.{word_on}
 use Rattle.lexis.specs.Bytes.{is_rest}
-use borrow.Author.Tests.{not-true, not-false}
+use borrow.Author.Tests.{not-false}
 use mathlib.Core.Path.{sym, ◌∙◌}
 use native.Mathlib.Omega.{arith}
 use Rattle.lexis.proofs.word.word_end.Goals as goal
 
-pub returns-then-not-all_at : goal.returns-then-not-all_at
-returns-then-not-all_at c = let a = c.args in
-    record {
-      is = sym (word_off a.w.now a.s.now a.p (sym c.all_at.ensures ∙ not-true _ c.if-not-all_at.true-raw));
-      low = omega arith;
-      high = omega arith;
-    }
-
 pub overflow_add-e : goal.overflow_add-e
 overflow_add-e c = let a = c.args in
     omega (arith, stands_inside a.w.now a.s.now a.p (sym c.all_at.ensures ∙ not-false _ c.if-not-all_at.false-raw))
-
-pub returns-then-is_rest : goal.returns-then-is_rest
-returns-then-is_rest c = let a = c.args in
-    record {
-      is = sym (word_on a.w.now a.s.now a.p (sym c.all_at.ensures ∙ not-false _ c.if-not-all_at.false-raw) (tested is_rest c.byte_at-b.ensures c.is_rest.ensures c.if-is_rest.true));
-      low = omega arith;
-      high = omega arith;
-    }
 
 pub returns-else-is_rest : goal.returns-else-is_rest
 returns-else-is_rest c = let a = c.args in

@@ -87,11 +87,11 @@ invariant-laid-loop-nodes l = Asked l.s l.initial.keys l.i l.u l.k l.p × Laying
 abbrev pub decreases-laid-loop-nodes : goal.decreases-laid-loop-nodes
 decreases-laid-loop-nodes l = 256 * (length l.s - l.q) + (228 - l.pc)
 
-abbrev pub invariant-parts-loop-g : goal.invariant-parts-loop-g
-invariant-parts-loop-g l = Asked l.s l.initial.keys l.i l.u l.k l.p × Laying l.start l.p l.before 37 × Parting l.s l.left l.lines l.start l.p l.i l.u l.initial.nodes l.nodes l.initial.text l.text l.q l.n l.t × Kept l.k l.initial.keys l.keys × (length l.nodes ≡ length l.initial.nodes) × (length l.text ≡ length l.initial.text)
+abbrev pub invariant-parts-loop-at : goal.invariant-parts-loop-at
+invariant-parts-loop-at l = Asked l.s l.initial.keys l.i l.u l.k l.p × Laying l.start l.p l.before 37 × Parting l.s l.left l.lines l.start l.p l.i l.u l.initial.nodes l.nodes l.initial.text l.text l.q l.n l.t × Kept l.k l.initial.keys l.keys × (length l.nodes ≡ length l.initial.nodes) × (length l.text ≡ length l.initial.text)
 
-abbrev pub decreases-parts-loop-g : goal.decreases-parts-loop-g
-decreases-parts-loop-g l = length l.s - l.q
+abbrev pub decreases-parts-loop-at : goal.decreases-parts-loop-at
+decreases-parts-loop-at l = length l.s - l.q
 
 abbrev pub invariant-array-loop-nodes : goal.invariant-array-loop-nodes
 invariant-array-loop-nodes l = Asked l.s l.initial.keys l.i l.u l.k l.p × Arraying l.s l.left l.lines l.p l.i l.u l.initial.nodes l.nodes l.initial.text l.text l.q l.n l.t × Kept l.k l.initial.keys l.keys × (length l.nodes ≡ length l.initial.nodes) × (length l.text ≡ length l.initial.text)
@@ -99,11 +99,11 @@ invariant-array-loop-nodes l = Asked l.s l.initial.keys l.i l.u l.k l.p × Array
 abbrev pub decreases-array-loop-nodes : goal.decreases-array-loop-nodes
 decreases-array-loop-nodes l = length l.s - l.q
 
-abbrev pub invariant-object-loop-w : goal.invariant-object-loop-w
-invariant-object-loop-w l = TurnObjectTurns l.s l.left l.lines l.i l.u l.p l.k l.initial.nodes l.nodes l.initial.text l.text l.initial.keys l.keys l.q l.n l.t l.top × (length l.nodes ≡ length l.initial.nodes) × (length l.text ≡ length l.initial.text)
+abbrev pub invariant-object-loop-m : goal.invariant-object-loop-m
+invariant-object-loop-m l = TurnObjectTurns l.s l.left l.lines l.i l.u l.p l.k l.initial.nodes l.nodes l.initial.text l.text l.initial.keys l.keys l.q l.n l.t l.top × (length l.nodes ≡ length l.initial.nodes) × (length l.text ≡ length l.initial.text)
 
-abbrev pub decreases-object-loop-w : goal.decreases-object-loop-w
-decreases-object-loop-w l = length l.s - l.q
+abbrev pub decreases-object-loop-m : goal.decreases-object-loop-m
+decreases-object-loop-m l = length l.s - l.q
 
 abbrev pub invariant-pieces-loop-q : goal.invariant-pieces-loop-q
 invariant-pieces-loop-q l = Asked l.s l.initial.keys l.i l.u l.k l.p × Texting l.s l.start l.p l.kind l.flag l.plain l.d l.e × Round l.s l.left l.lines l.start l.kind l.flag l.p l.i l.u l.k l.initial.nodes l.nodes l.initial.text l.text l.initial.keys l.keys l.q l.n l.t × (length l.nodes ≡ length l.initial.nodes) × (length l.text ≡ length l.initial.text)
