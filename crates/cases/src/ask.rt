@@ -2,7 +2,7 @@
 use crate::say::{all, flag, number, say};
 use input::byte;
 use lexis::heredoc::Line;
-use lexis::string::Why;
+use lexis::string::{Round, Why};
 use lexis::trivia::{Stop, Unclosed};
 use std::io::{self, Write};
 
@@ -173,15 +173,8 @@ fn unit<W: Write>(out: &mut W, s: &[u8], p: usize, quoted: bool) -> io::Result<(
     }
 }
 
-fn run<W: Write>(
-    out: &mut W,
-    s: &[u8],
-    p: usize,
-    quoted: bool,
-    d: usize,
-    e: usize,
-) -> io::Result<()> {
-    let r = lexis::string::run_at(s, p, quoted, d, e);
+fn run<W: Write>(out: &mut W, s: &[u8], p: usize, round: Round) -> io::Result<()> {
+    let r = lexis::string::run_at(s, p, round);
     say(out, r.end)?;
     say(out, r.length)?;
     flag(out, r.escaped)?;
@@ -189,28 +182,26 @@ fn run<W: Write>(
 }
 
 // Whether the text was written, then the whole buffer.
-fn written<W: Write>(
-    out: &mut W,
-    s: &[u8],
-    p: usize,
-    quoted: bool,
-    d: usize,
-    e: usize,
-    at: usize,
-) -> io::Result<()> {
+fn written<W: Write>(out: &mut W, s: &[u8], p: usize, round: Round, at: usize) -> io::Result<()> {
     let mut room = [255u8; 12];
-    flag(out, lexis::string::write(s, p, quoted, d, e, &mut room, at))?;
+    flag(out, lexis::string::write(s, p, round, &mut room, at))?;
     all(out, &room)
 }
 
 fn texts<W: Write>(out: &mut W, q: u8, head: &[u8], s: &[u8], p: usize) -> io::Result<()> {
-    let d = number(head, A);
-    let e = number(head, B);
     let quoted = number(head, C) == 1;
+    let round = if quoted {
+        Round::Quoted
+    } else {
+        Round::Heredoc {
+            from: number(head, A),
+            to: number(head, B),
+        }
+    };
     match q {
         60 => unit(out, s, p, quoted),
-        61 => run(out, s, p, quoted, d, e),
-        _ => written(out, s, p, quoted, d, e, number(head, D)),
+        61 => run(out, s, p, round),
+        _ => written(out, s, p, round, number(head, D)),
     }
 }
 

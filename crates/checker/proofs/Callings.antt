@@ -1,4 +1,6 @@
 -- Kinds: which grow from an operand, and whether the bytes at a place call for one.
+use Rattle.std.specs.Prelude.{Option, None, Some}
+use Rattle.std.specs.Option.{option_eq}
 use Prim.Native.Nat.{ℕ, ◌≤◌, ◌<◌}
 use mathlib.Core.Path.{◌≡◌, refl, sym, ap, subst, ◌∙◌}
 use mathlib.Core.List.{List, [], ◌∷◌}
@@ -14,10 +16,15 @@ use Rattle.engine.specs.Layout.{named}
 use Rattle.grammar.specs.Moves.{Want, an_expression, a_name, an_item, a_part, a_piece, a_condition, Under}
 use Rattle.grammar.specs.Hcl.{hcl, under, pick_at, follow_at}
 use Rattle.grammar.specs.Published.{want_of, style_of}
-use Rattle.grammar.specs.Said.{kind_of, TermAt, PartAt}
+use Rattle.grammar.specs.Said.{kind_of, kind_from, TermAt, PartAt}
 use Rattle.grammar.specs.KindLaws.{heads, pick_all}
 use Rattle.grammar.specs.PickLaws.{listed, followers, termed, followed, picked_pos, picked_term, kind_some}
 use Rattle.checker.specs.Leaf.{is_grown, read_as, FirstAt}
+
+-- an answer is a kind
+pub some_is : (o : Option ℕ) (k : ℕ) → (k ≡ 0 → ⊥) → option_eq eqb o (Some k) ≡ eqb (kind_from o) k
+some_is None k n = sym (ne_eqb 0 k (λ e. n (sym e)))
+some_is (Some x) k n = refl
 
 -- ---- which grow from an operand
 

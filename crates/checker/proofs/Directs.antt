@@ -259,6 +259,6 @@ module _ (s t : List ℕ) (i : ℕ) (m D : List ℕ) (j v : ℕ) (a : Direct t i
       operator_by y f u ends = record { laid = λ p o. right_on o moved z kid_is y f u ends }
 
 -- behind a left operand
-pub operator_laid : {s t : List ℕ} {i : ℕ} {m D D' : List ℕ} {j l q v : ℕ} {lines r : Bool} {x : Left} → lines ≡ eqb (v % 2) 1 → LeftTo s t i l lines x → x.good ≡ true → q ≡ (row_at t l).end → ¬ (x.end ≡ q) → OperatorBy s t i m D D' j x.end v r → LaidBy s t i m D D' j q (v / 2) (eqb (v % 2) 1) r
-operator_laid {s} {t} {i} {l = l} {q} {v} {lines} {r} {x} e h z f n o =
-    o.laid q (subst (λ (b : ℕ). Operates s t i (eqb (v % 2) 1) b x.end) (sym f) (subst (λ (b : Bool). Operates s t i b (row_at t l).end x.end) e (h.operates z (λ y. n (y ∙ sym f)))))
+pub operator_laid : {s t : List ℕ} {i : ℕ} {m D D' : List ℕ} {j l q v : ℕ} {r : Bool} {x : Left} → LeftTo s t i l (eqb (v % 2) 1) x → x.good ≡ true → q ≡ (row_at t l).end → ¬ (x.end ≡ q) → OperatorBy s t i m D D' j x.end v r → LaidBy s t i m D D' j q (v / 2) (eqb (v % 2) 1) r
+operator_laid {s} {t} {i} {l = l} {q} {v} {r} {x} h z f n o =
+    o.laid q (subst (λ (b : ℕ). Operates s t i (eqb (v % 2) 1) b x.end) (sym f) (h.operates z (λ y. n (y ∙ sym f))))

@@ -379,6 +379,10 @@ module _ {s : List ℕ} {p : ℕ} {g : Went} (sp : Moved s p false g) where
 
 -- ---- by its number
 
+-- a move with numbers that are equal
+pub gone_as : {s : List ℕ} {n n' : ℕ} {l l' : Bool} {a p : ℕ} {r : Went} → n ≡ n' → l ≡ l' → GoneAt s n l a p r → GoneAt s n' l' a p r
+gone_as {s} {n} {n'} {l} {l'} {a} {p} {r} e f h = subst (λ (x : Bool). GoneAt s n' x a p r) f (subst (λ (x : ℕ). GoneAt s x l a p r) e h)
+
 module _ {s : List ℕ} {left : ℕ} {lines : Bool} {a p : ℕ} {r : Went} where
   at : (n : ℕ) → a ≡ n → GoneAt s left lines n p r → GoneAt s left lines a p r
   at n e h = rw e h

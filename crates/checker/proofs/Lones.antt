@@ -2,16 +2,16 @@
 use Prim.Native.Nat.{ℕ, zero, suc, ◌+◌, ◌-◌, ◌≤◌, ◌<◌}
 use mathlib.Core.Path.{◌≡◌, refl, sym, ap, subst, ◌∙◌}
 use mathlib.Core.List.{List, [], ◌∷◌}
-use mathlib.Core.Bool.{Bool, true, false, cond, not, ◌&&◌, ◌||◌, or-false}
+use mathlib.Core.Bool.{Bool, true, false, cond, not}
 use mathlib.Core.Logic.{inl, inr}
 use native.Mathlib.Omega.{arith}
 use lib.ListN.{length, drop}
 use lib.Dec.{eqb, leb}
 use lib.Seq.{drop-drop}
-use borrow.Author.Tests.{eqb-true, eqb-false, eq-eqb, ne_eqb, leb-true, leb-false}
-use Rattle.lexis.specs.Bytes.{byte_at, is_space, stands, up_to, Byte, Ran}
+use borrow.Author.Tests.{eqb-true, eqb-false, eq-eqb, leb-true, leb-false}
+use Rattle.lexis.specs.Bytes.{byte_at, is_space, stands, up_to, Byte}
 use Rattle.lexis.specs.Trivia.{Gap, none, closes, block, item, ends_at, open_at, placed, gap_to}
-use Rattle.lexis.specs.Operator.{is_mark, equals_to}
+use Rattle.lexis.specs.Operator.{equals_to}
 use Rattle.lexis.specs.RunLaws.{clash, front, inside, and_left, and_right, stands_one, stands_two, stands_inside, reach, reach_on, reach_stop, reach_end}
 use Rattle.lexis.proofs.Trivias.{block_found, block_endless, item_space, item_block, gap_stop, gap_on}
 use Rattle.checker.specs.declared.lone.Memo.{Memo}
@@ -274,24 +274,6 @@ module _ {s : List ℕ} {c at : ℕ} (t : Trail s c at) where
           yes = i ∙ sym (t.same ∙ beyond at t.opens (omega arith) z.low ∙ ends_here);
           known = known_one h (known_here i) o;
         }
-
--- ---- a sign
-
-module _ {s : List ℕ} {q e : ℕ} (i : Ran s q (equals_to s q) e) where
-  colon_bytes : is_mark (58 ∷ []) ((58 ∷ 58 ∷ []) ∷ []) s q ≡ (eqb (byte_at s q) 58 && not ((eqb (byte_at s q) 58 && eqb (byte_at s (q + 1)) 58) || false))
-  colon_bytes = rw (stands_one 58 s q refl, stands_two 58 58 s q refl refl)
-
-  pub sign_equals : ¬ (e ≡ q) → true ≡ sign_at s q
-  sign_equals n = rw (ne_eqb (equals_to s q) q (λ z. n (i.is ∙ z)))
-
-  module _ {b : ℕ} (z : e ≡ q) (c : Byte s q b) where
-    pub sign_none : ¬ (b ≡ 58) → false ≡ sign_at s q
-    sign_none n = sym (rw (eq-eqb (equals_to s q) q (sym i.is ∙ z)) (colon_bytes ∙ rw (ne_eqb (byte_at s q) 58 (λ w. n (c.is ∙ w)))))
-
-    pub sign_colon : {d : ℕ} → b ≡ 58 → Byte s (q + 1) d → not (eqb d 58) ≡ sign_at s q
-    sign_colon n m =
-        ap (λ (x : ℕ). not (eqb x 58)) m.is
-        ∙ sym (rw (eq-eqb (equals_to s q) q (sym i.is ∙ z)) (colon_bytes ∙ rw (eq-eqb (byte_at s q) 58 (sym c.is ∙ n), or-false (eqb (byte_at s (q + 1)) 58))))
 
 -- ---- a key
 

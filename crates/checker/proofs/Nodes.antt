@@ -25,7 +25,7 @@ use Rattle.checker.specs.Family.{Linked, Family}
 use Rattle.checker.specs.Leaf.{kinds_by, FirstAt}
 use Rattle.checker.specs.Lay.{coded, depths_at, LaidBy}
 use Rattle.checker.specs.Texts.{Sanes, TextBy}
-use Rattle.checker.specs.Node.{RuleBy, SingleBy, LeftAt, no_left, LeftTo, NodeBy}
+use Rattle.checker.specs.Node.{RuleBy, SingleBy, LeftAt, Left, no_left, LeftTo, NodeBy}
 use Rattle.checker.proofs.Families.{family_none}
 
 -- ---- a left operand
@@ -161,8 +161,8 @@ module _ (s text t : List ℕ) (i : ℕ) (D : List ℕ) where
 pub first_as : {s : List ℕ} {k p p' : ℕ} {l l' r : Bool} → p ≡ p' → l ≡ l' → FirstAt s k p l r → FirstAt s k p' l' r
 first_as {s} {k} {p} {p'} {l} {l'} {r} a b h = subst (λ (x : Bool). FirstAt s k p' x r) b (subst (λ (x : ℕ). FirstAt s k x l r) a h)
 
-pub left_as : {s t : List ℕ} {i j : ℕ} {l l' r : Bool} → l ≡ l' → LeftAt s t i j l r → LeftAt s t i j l' r
-left_as {s} {t} {i} {j} {l} {l'} {r} a h = subst (λ (x : Bool). LeftAt s t i j x r) a h
+pub left_as : {s t : List ℕ} {i j : ℕ} {l l' : Bool} {r : Left} → l ≡ l' → LeftTo s t i j l r → LeftTo s t i j l' r
+left_as {s} {t} {i} {j} {l} {l'} {r} a h = subst (λ (x : Bool). LeftTo s t i j x r) a h
 
 pub laid_as : {s t : List ℕ} {i : ℕ} {m D D' : List ℕ} {j p p' n n' : ℕ} {l l' r : Bool} → p ≡ p' → n ≡ n' → l ≡ l' → LaidBy s t i m D D' j p n l r → LaidBy s t i m D D' j p' n' l' r
 laid_as {s} {t} {i} {m} {D} {D'} {j} {p} {p'} {n} {n'} {l} {l'} {r} a b c h =

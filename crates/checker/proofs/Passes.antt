@@ -146,6 +146,10 @@ item_want (suc (suc (suc zero))) h = absurd h
 item_want (suc (suc (suc (suc zero)))) h = refl
 item_want (suc (suc (suc (suc (suc n))))) h = absurd h
 
+-- what a child is under, by numbers that are equal
+pub child_as : {c n n' : ℕ} {l l' : Bool} {y : Child} → n ≡ n' → l ≡ l' → ChildAt c n l y → ChildAt c n' l' y
+child_as {c} {n} {n'} {l} {l'} {y} a b h = subst (λ (x : Bool). ChildAt c n' x y) b (subst (λ (x : ℕ). ChildAt c x l y) a h)
+
 module _ (s t : List ℕ) (i : ℕ) (m D K : List ℕ) (j n c left : ℕ) (lines : Bool) (at : ℕ) where
   -- it is not one
   pub pass_no : {K' : List ℕ} → length K' ≡ length K

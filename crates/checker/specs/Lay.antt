@@ -167,6 +167,13 @@ pub record Direct (t : List ℕ) (i : ℕ) (m D : List ℕ) (j : ℕ) : Type 0 w
   pub js : List ℕ
   pub chain : Chain m i js j
 
+-- the same of a kind that has a layout, and no items
+pub record Itemless (t : List ℕ) (i : ℕ) (m D : List ℕ) (j : ℕ) : Type 0 where
+  pub direct : Direct t i m D j
+  pub known : T (has laid_out (row_at t i).kind)
+  pub other : (row_at t i).kind ≡ 12 → ⊥
+  pub small : i ≤ 65535
+
 -- the children js of the row i, and those before them, of an object none
 pub record Children (t : List ℕ) (i : ℕ) (m : List ℕ) (j : ℕ) (ks : List (Rec ℕ)) (js : List ℕ) : Type 0 where
   pub chain : Chain m i js j

@@ -4,66 +4,45 @@ ghost use Rattle.grammar.specs.Layouts.{interpolation_lay};
 ghost use Rattle.checker.specs.Lay.{Seating, Direct};
 ghost use Rattle.checker.specs.Rest.{StepBy, RestBy, TailBy, inside_lay, enclosed_lay, stripped_lay};
 
-use crate::lay::ends;
-use crate::pass::kid;
-use crate::rows::wide;
+use crate::site::Site;
 use grammar::moves::space;
 use grammar::program::Want;
 use lexis::operator::{mark_end, pair_end};
 
 // An expression behind any trivia from p on, a level deeper than a depth.
-pub fn inside(
-    s: &[u8],
-    table: &[u16],
-    i: usize,
-    depths: &mut [u8],
-    j: usize,
-    p: usize,
-    own: u8,
-) -> bool
-    requires { Seating table.now i depths.old j × (2 ≤ own) }
-    ensures { StepBy s.now table.now i own depths.old depths.new inside_lay j p result }
+pub fn inside(site: Site, depths: &mut [u8], j: usize, p: usize) -> bool
+    requires { Seating site.table.now site.i depths.old j × (2 ≤ site.own) }
+    ensures { StepBy site.entry.s.now site.entry.table.now site.entry.i site.entry.own depths.old depths.new inside_lay j p result }
 {
-    let Ok(w) = space(s, p, true) else {
+    let Ok(w) = space(site.s, p, true) else {
         return false;
     };
-    kid(table, i, depths, j, w, 0, Want::Expression, own / 2 * 2 - 1)
+    site.kid(depths, j, w, 0, Want::Expression, site.inner())
 }
 
 // An opener at p, an expression and its closer.
-pub fn enclosed(
-    s: &[u8],
-    table: &[u16],
-    i: usize,
-    marks: &[u16],
-    depths: &mut [u8],
-    j: usize,
-    p: usize,
-    own: u8,
-    opener: u8,
-    closer: u8,
-) -> bool
-    requires { Direct table.now i marks.now depths.old j }
-    ensures { RestBy s.now table.now i own marks.now depths.old depths.new (enclosed_lay opener closer) j p result }
+pub fn enclosed(site: Site, depths: &mut [u8], j: usize, p: usize, opener: u8, closer: u8) -> bool
+    requires { Direct site.table.now site.i site.marks.now depths.old j }
+    ensures { RestBy site.entry.s.now site.entry.table.now site.entry.i site.entry.own site.entry.marks.now depths.old depths.new (enclosed_lay opener closer) j p result }
 {
-    if own < 2 {
+    if site.own < 2 {
         return false;
     }
-    let b = mark_end(s, p, opener);
+    let b = mark_end(site.s, p, opener);
     if b == p {
         return false;
     }
-    if !inside(s, table, i, depths, j, b, own) {
+    if !inside(site, depths, j, b) {
         return false;
     }
-    let Ok(w) = space(s, wide(table[7 * j + 3]), true) else {
+    let Ok(w) = space(site.s, site.end(j), true) else {
         return false;
     };
-    let e = mark_end(s, w, closer);
+    let e = mark_end(site.s, w, closer);
     if e == w {
         return false;
     }
-    ends(table, i, wide(marks[j]), e, 0)
+    site.ends(site.next(j), e, 0)
 }
 
 // The flag of an interpolation, by where a `~` stands.
@@ -77,45 +56,36 @@ fn flagged(left: bool, right: bool) -> usize
 }
 
 // Behind the expression of an interpolation, which ends at p: perhaps `~`, and `}`.
-fn stripped(s: &[u8], table: &[u16], i: usize, j: usize, p: usize, left: bool) -> bool
-    requires { 7 * i + 7 ≤ length table.now }
-    ensures { TailBy s.now table.now i (stripped_lay (cond left 1 0)) j p result }
+fn stripped(site: Site, j: usize, p: usize, left: bool) -> bool
+    requires { 7 * site.i + 7 ≤ length site.table.now }
+    ensures { TailBy site.entry.s.now site.entry.table.now site.entry.i (stripped_lay (cond left 1 0)) j p result }
 {
-    let Ok(at) = space(s, p, true) else {
+    let Ok(at) = space(site.s, p, true) else {
         return false;
     };
-    let r = mark_end(s, at, 126);
-    let e = mark_end(s, r, 125);
+    let r = mark_end(site.s, at, 126);
+    let e = mark_end(site.s, r, 125);
     if e == r {
         return false;
     }
-    ends(table, i, j, e, flagged(left, r != at))
+    site.ends(j, e, flagged(left, r != at))
 }
 
 // An interpolation at p: `${`, perhaps `~`, an expression, perhaps `~`, and `}`.
-pub fn interpolation(
-    s: &[u8],
-    table: &[u16],
-    i: usize,
-    marks: &[u16],
-    depths: &mut [u8],
-    j: usize,
-    p: usize,
-    own: u8,
-) -> bool
-    requires { Direct table.now i marks.now depths.old j }
-    ensures { RestBy s.now table.now i own marks.now depths.old depths.new interpolation_lay j p result }
+pub fn interpolation(site: Site, depths: &mut [u8], j: usize, p: usize) -> bool
+    requires { Direct site.table.now site.i site.marks.now depths.old j }
+    ensures { RestBy site.entry.s.now site.entry.table.now site.entry.i site.entry.own site.entry.marks.now depths.old depths.new interpolation_lay j p result }
 {
-    if own < 2 {
+    if site.own < 2 {
         return false;
     }
-    let b = pair_end(s, p, 36, 123);
+    let b = pair_end(site.s, p, 36, 123);
     if b == p {
         return false;
     }
-    let l = mark_end(s, b, 126);
-    if !inside(s, table, i, depths, j, l, own) {
+    let l = mark_end(site.s, b, 126);
+    if !inside(site, depths, j, l) {
         return false;
     }
-    stripped(s, table, i, wide(marks[j]), wide(table[7 * j + 3]), l != b)
+    stripped(site, site.next(j), site.end(j), l != b)
 }

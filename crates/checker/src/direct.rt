@@ -5,10 +5,8 @@ ghost use Rattle.checker.specs.Rows.{row_at};
 ghost use Rattle.checker.specs.Program.{laid_out};
 ghost use Rattle.checker.specs.Lay.{Direct, LaidBy, OperatorBy};
 
-use crate::lay::ends;
 use crate::moves::sign;
-use crate::pass::kid;
-use crate::rows::wide;
+use crate::site::Site;
 use grammar::kinds::tight;
 use grammar::moves::space;
 use grammar::program::Want;
@@ -21,56 +19,37 @@ fn one_line(own: u8) -> u8
 }
 
 // An item from p on: its key, the sign and its value.
-pub fn item(
-    s: &[u8],
-    table: &[u16],
-    i: usize,
-    marks: &[u16],
-    depths: &mut [u8],
-    first: usize,
-    p: usize,
-    own: u8,
-) -> bool
-    requires { Direct table.now i marks.now depths.old first × ((row_at table.now i).kind ≡ 13) }
-    ensures { LaidBy s.now table.now i marks.now depths.old depths.new first p (own / 2) (eqb (own % 2) 1) result }
+pub fn item(site: Site, depths: &mut [u8], first: usize, p: usize) -> bool
+    requires { Direct site.table.now site.i site.marks.now depths.old first × ((row_at site.table.now site.i).kind ≡ 13) }
+    ensures { LaidBy site.entry.s.now site.entry.table.now site.entry.i site.entry.marks.now depths.old depths.new first p (site.entry.own / 2) (eqb (site.entry.own % 2) 1) result }
 {
-    if !kid(table, i, depths, first, p, 0, Want::Key, one_line(own)) {
+    if !site.kid(depths, first, p, 0, Want::Key, one_line(site.own)) {
         return false;
     }
-    let Some(g) = sign(s, wide(table[7 * first + 3])) else {
+    let Some(g) = sign(site.s, site.end(first)) else {
         return false;
     };
-    let Ok(w) = space(s, g.at, false) else {
+    let Ok(w) = space(site.s, g.at, false) else {
         return false;
     };
-    let j = wide(marks[first]);
-    if !kid(table, i, depths, j, w, 0, Want::Expression, own) {
+    let j = site.next(first);
+    if !site.kid(depths, j, w, 0, Want::Expression, site.own) {
         return false;
     }
-    ends(table, i, wide(marks[j]), wide(table[7 * j + 3]), g.flag)
+    site.ends(site.next(j), site.end(j), g.flag)
 }
 
 // A binary operator that ends at e, and its right operand.
-pub fn operator(
-    s: &[u8],
-    table: &[u16],
-    i: usize,
-    marks: &[u16],
-    depths: &mut [u8],
-    j: usize,
-    e: usize,
-    own: u8,
-    lines: bool,
-) -> bool
-    requires { Direct table.now i marks.now depths.old j × (lines ≡ eqb (own % 2) 1) × T (has laid_out (row_at table.now i).kind) }
-    ensures { OperatorBy s.now table.now i marks.now depths.old depths.new j e own result }
+pub fn operator(site: Site, depths: &mut [u8], j: usize, e: usize) -> bool
+    requires { Direct site.table.now site.i site.marks.now depths.old j × T (has laid_out (row_at site.table.now site.i).kind) }
+    ensures { OperatorBy site.entry.s.now site.entry.table.now site.entry.i site.entry.marks.now depths.old depths.new j e site.entry.own result }
 {
-    let Ok(w) = space(s, e, lines) else {
+    let Ok(w) = space(site.s, e, site.lines()) else {
         return false;
     };
-    let bound = tight(table[7 * i]) as usize;
-    if !kid(table, i, depths, j, w, bound, Want::Expression, own) {
+    let bound = tight(site.table[7 * site.i]) as usize;
+    if !site.kid(depths, j, w, bound, Want::Expression, site.own) {
         return false;
     }
-    ends(table, i, wide(marks[j]), wide(table[7 * j + 3]), 0)
+    site.ends(site.next(j), site.end(j), 0)
 }

@@ -75,8 +75,8 @@ pub fn first_at(s: &[u8], kind: u16, p: usize, lines: bool) -> bool
         0 => false,
         10 => two_at(s, p, 36, 123),
         13 | 17 | 20 => true,
-        14 => term_at(s, p, lines) == Kind::VARIABLE,
-        38..=42 => part_at(s, p) == kind,
-        _ => term_at(s, p, lines) == kind,
+        14 => term_at(s, p, lines) == Some(Kind::VARIABLE),
+        38..=42 => part_at(s, p) == Some(kind),
+        _ => term_at(s, p, lines) == Some(kind),
     }
 }

@@ -1,14 +1,12 @@
 // A layout, laid over the children of a node by its program.
-ghost use Rattle.std.specs.Prelude.{◌≡◌, ◌+◌, ◌*◌, ◌≤◌, T, length};
-ghost use Rattle.engine.specs.Base.{has};
-ghost use Rattle.checker.specs.Rows.{row_at};
-ghost use Rattle.checker.specs.Program.{laid_out};
-ghost use Rattle.checker.specs.Lay.{EndsAt, Direct, LaidBy};
+ghost use Rattle.std.specs.Prelude.{◌+◌, ◌*◌, ◌/◌, ◌%◌, ◌≤◌, eqb, length};
+ghost use Rattle.checker.specs.Lay.{EndsAt, Itemless, LaidBy};
 
 use crate::moves::go;
 use crate::pass::child_at;
 use crate::program::{Instr, begin, instr};
 use crate::rows::wide;
+use crate::site::Site;
 
 // Whether the i-th row ends at q with a flag, and no child of it is left.
 pub fn ends(table: &[u16], i: usize, j: usize, q: usize, flag: usize) -> bool
@@ -24,39 +22,31 @@ pub fn ends(table: &[u16], i: usize, j: usize, q: usize, flag: usize) -> bool
     flag == wide(table[7 * i + 1])
 }
 
-// Whether the layout of the i-th row's kind, which has no items, goes from p over the children from the j-th row on, and ends where the row does.
-pub fn lay(
-    s: &[u8],
-    table: &[u16],
-    i: usize,
-    marks: &[u16],
-    depths: &mut [u8],
-    first: usize,
-    p: usize,
-    left: usize,
-    lines: bool,
-) -> bool
-    requires { Direct table.now i marks.now depths.old first × (left ≤ 127) × T (has laid_out (row_at table.now i).kind) × ((row_at table.now i).kind ≡ 12 → ⊥) × (i ≤ 65535) }
-    ensures { LaidBy s.now table.now i marks.now depths.old depths.new first p left lines result }
+// Whether the layout of the row's kind, which has no items, goes from p over the children from the row `first` on, and ends where the row does.
+pub fn lay(site: Site, depths: &mut [u8], first: usize, p: usize) -> bool
+    requires { Itemless site.table.now site.i site.marks.now depths.old first }
+    ensures { LaidBy site.entry.s.now site.entry.table.now site.entry.i site.entry.marks.now depths.old depths.new first p (site.entry.own / 2) (eqb (site.entry.own % 2) 1) result }
 {
-    let mut pc = begin(table[7 * i]);
+    let left = site.left();
+    let lines = site.lines();
+    let mut pc = begin(site.table[7 * site.i]);
     let mut q = p;
     let mut j = first;
     loop {
         let x = instr(pc);
         if x.op == Instr::FIN {
-            return ends(table, i, j, q, x.arg);
+            return site.ends(j, q, x.arg);
         }
         if x.op == Instr::KID {
-            if !child_at(table, i, depths, j, q, x.class, left, lines) {
+            if !child_at(site, depths, j, q, x.class) {
                 return false;
             }
-            q = wide(table[7 * j + 3]);
-            j = wide(marks[j]);
+            q = site.end(j);
+            j = site.next(j);
             pc = pc + 1;
             continue;
         }
-        let Ok(w) = go(s, left, lines, x.arg, q) else {
+        let Ok(w) = go(site.s, left, lines, x.arg, q) else {
             if x.op == Instr::MOVE {
                 return false;
             }
@@ -64,11 +54,11 @@ pub fn lay(
             continue;
         };
         if x.op == Instr::REP {
-            if !child_at(table, i, depths, j, w, x.class, left, lines) {
+            if !child_at(site, depths, j, w, x.class) {
                 return false;
             }
-            q = wide(table[7 * j + 3]);
-            j = wide(marks[j]);
+            q = site.end(j);
+            j = site.next(j);
             continue;
         }
         q = w;

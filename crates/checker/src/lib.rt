@@ -34,6 +34,7 @@ mod program;
 mod row;
 mod rows;
 mod single;
+mod site;
 mod text;
 mod texts;
 mod told;

@@ -1,10 +1,10 @@
 // Whether the key of an item stands alone, with what was found of comments behind earlier keys: so no comment is passed once for each of many keys in it.
 ghost use Rattle.std.specs.Prelude.{◌≡◌, [], ◌∷◌, true, ◌+◌, ◌≤◌, length};
 ghost use Rattle.lexis.specs.Bytes.{stands};
-ghost use Rattle.checker.specs.Lone.{sign_at, Known, SpacesTo, CloserAt, Covered, OneOf, Behind};
+ghost use Rattle.checker.specs.Lone.{Known, SpacesTo, CloserAt, Covered, OneOf, Behind};
 
+use grammar::picks::signs;
 use lexis::bytes::{byte_at, is_space, one_at, two_at};
-use lexis::operator::equals_end;
 
 // Of each `/*` whose text starts from `from` to `to`, but not with `/`: whether `=` or `:` stands behind the same-line space that it starts.
 #[derive(Clone, Copy, Drop)]
@@ -19,19 +19,6 @@ pub struct Memo {
 pub struct Lone {
     pub yes: bool,
     pub memo: Memo,
-}
-
-// Whether `=` or `:` stands at q.
-fn sign_at(s: &[u8], q: usize) -> bool
-    ensures { result ≡ sign_at s.now q }
-{
-    if equals_end(s, q) != q {
-        return true;
-    }
-    if byte_at(s, q) != 58 {
-        return false;
-    }
-    byte_at(s, q + 1) != 58
 }
 
 // Past the spaces from p on.
@@ -50,14 +37,12 @@ fn closer(s: &[u8], p: usize) -> usize
     requires { p ≤ length s.now }
     ensures { CloserAt s.now p result }
 {
-    let mut i = p;
-    while i < s.len() {
+    for i in p..s.len() {
         if two_at(s, i, 42, 47) {
             return i;
         }
-        i += 1;
     }
-    i
+    s.len()
 }
 
 // Whether what is known tells of the `/*` at c.
@@ -108,7 +93,7 @@ fn behind(s: &[u8], c: usize, memo: Memo) -> Lone
         }
         let q = spaces(s, e + 2);
         if !two_at(s, q, 47, 42) {
-            let yes = sign_at(s, q);
+            let yes = signs(s, q);
             let new = Memo {
                 from: c + 2,
                 to: e,
@@ -133,7 +118,7 @@ pub fn alone(s: &[u8], k: usize, memo: Memo) -> Lone
     if two_at(s, q, 47, 42) {
         return behind(s, q, memo);
     }
-    let yes = sign_at(s, q);
+    let yes = signs(s, q);
     Lone {
         yes: yes,
         memo: memo,

@@ -1,5 +1,5 @@
 // The rule at one row.
-ghost use Rattle.std.specs.Prelude.{◌≡◌, true, false, ◌+◌, ◌*◌, ◌/◌, ◌%◌, ◌≤◌, eqb, length, get_or};
+ghost use Rattle.std.specs.Prelude.{◌≡◌, true, false, ◌+◌, ◌*◌, ◌%◌, ◌≤◌, eqb, length, get_or};
 ghost use Rattle.checker.specs.Rows.{row_at};
 ghost use Rattle.checker.specs.Family.{Linked};
 ghost use Rattle.checker.specs.Leaf.{is_grown};
@@ -16,19 +16,14 @@ use crate::precedence::groups;
 use crate::program::fits;
 use crate::rows::wide;
 use crate::single::single;
+use crate::site::Site;
 use crate::text::string;
 use crate::texts::texts;
 use grammar::kinds::{Kind, tight};
 use grammar::picks::next_at;
 use grammar::program::Want;
 use lexis::heredoc::opener_at;
-
-// The levels left, in a depth.
-fn levels(own: u8) -> usize
-    ensures { (result ≡ own / 2) × (result ≤ 127) }
-{
-    (own / 2) as usize
-}
+use lexis::string::Round;
 
 // Whether a line end may stand, in a depth.
 fn multi_line(own: u8) -> bool
@@ -38,93 +33,64 @@ fn multi_line(own: u8) -> bool
 }
 
 // A template: its quote, and its text.
-fn template(
-    s: &[u8],
-    text: &[u8],
-    table: &[u16],
-    i: usize,
-    marks: &[u16],
-    depths: &mut [u8],
-    first: usize,
-    own: u8,
-) -> bool
-    requires { Heading s.now table.now i marks.now depths.old × Linked marks.now i first × ((row_at table.now i).kind ≡ 7) }
-    ensures { RuleBy s.now text.now table.now i marks.now depths.old depths.new first own result }
+fn template(site: Site, text: &[u8], depths: &mut [u8], first: usize) -> bool
+    requires { Heading site.s.now site.table.now site.i site.marks.now depths.old × Linked site.marks.now site.i first × ((row_at site.table.now site.i).kind ≡ 7) }
+    ensures { RuleBy site.entry.s.now text.now site.entry.table.now site.entry.i site.entry.marks.now depths.old depths.new first site.entry.own result }
 {
-    let start = wide(table[7 * i + 2]);
-    if table[7 * i + 1] != 0 {
+    let start = site.start();
+    if site.table[7 * site.i + 1] != 0 {
         return false;
     }
-    if !first_at(s, Kind::TEMPLATE, start, multi_line(own)) {
+    if !first_at(site.s, Kind::TEMPLATE, start, site.lines()) {
         return false;
     }
-    texts(
-        s,
-        text,
-        table,
-        i,
-        marks,
-        depths,
-        first,
-        start + 1,
-        own,
-        true,
-        0,
-        0,
-    )
+    texts(site, text, depths, first, start + 1, Round::Quoted)
 }
 
 // A heredoc: its opener, and its text.
-fn heredoc(
-    s: &[u8],
-    text: &[u8],
-    table: &[u16],
-    i: usize,
-    marks: &[u16],
-    depths: &mut [u8],
-    first: usize,
-    own: u8,
-) -> bool
-    requires { Heading s.now table.now i marks.now depths.old × Linked marks.now i first × ((row_at table.now i).kind ≡ 8) }
-    ensures { RuleBy s.now text.now table.now i marks.now depths.old depths.new first own result }
+fn heredoc(site: Site, text: &[u8], depths: &mut [u8], first: usize) -> bool
+    requires { Heading site.s.now site.table.now site.i site.marks.now depths.old × Linked site.marks.now site.i first × ((row_at site.table.now site.i).kind ≡ 8) }
+    ensures { RuleBy site.entry.s.now text.now site.entry.table.now site.entry.i site.entry.marks.now depths.old depths.new first site.entry.own result }
 {
-    let start = wide(table[7 * i + 2]);
-    if !first_at(s, Kind::HEREDOC, start, multi_line(own)) {
+    let start = site.start();
+    if !first_at(site.s, Kind::HEREDOC, start, site.lines()) {
         return false;
     }
-    let Ok(o) = opener_at(s, start) else {
+    let Ok(o) = opener_at(site.s, start) else {
         return false;
     };
-    if wide(table[7 * i + 1]) != usize::from(o.dash) {
+    if wide(site.table[7 * site.i + 1]) != usize::from(o.dash) {
         return false;
     }
-    texts(
-        s, text, table, i, marks, depths, first, o.at, own, false, o.from, o.to,
-    )
+    let round = Round::Heredoc {
+        from: o.from,
+        to: o.to,
+    };
+    texts(site, text, depths, first, o.at, round)
 }
 
-// Where the l-th row may be the left operand of the i-th, which is an operator, a conditional or a traversal: the end of the binary operator behind it, or its own end
+// Where the l-th row may be the left operand of the row, which is an operator, a conditional or a traversal: the end of the binary operator behind it, or its own end
 // where none stands there.
-fn left_at(s: &[u8], table: &[u16], i: usize, l: usize, lines: bool) -> Option<usize>
-    requires { (7 * i + 7 ≤ length table.now) × (7 * l + 7 ≤ length table.now) }
-    ensures { LeftTo s.now table.now i l lines (left_from result) }
+fn left_at(site: Site, l: usize) -> Option<usize>
+    requires { (7 * site.i + 7 ≤ length site.table.now) × (7 * l + 7 ≤ length site.table.now) }
+    ensures { LeftTo site.entry.s.now site.entry.table.now site.entry.i l (eqb (site.entry.own % 2) 1) (left_from result) }
 {
-    let start = table[7 * l + 2];
-    if start != table[7 * i + 2] {
+    let start = site.table[7 * l + 2];
+    if start != site.table[7 * site.i + 2] {
         return None;
     }
-    if table[7 * l + 3] <= start {
+    if site.table[7 * l + 3] <= start {
         return None;
     }
-    let kind = table[7 * i];
-    let operand = table[7 * l];
+    let kind = site.table[7 * site.i];
+    let operand = site.table[7 * l];
     if !groups(tight(kind) as usize, hold(operand) as usize, false) {
         return None;
     }
     if !fits(Want::Expression, operand) {
         return None;
     }
-    let h = next_at(s, wide(table[7 * l + 3]), lines);
+    let h = next_at(site.s, site.end(l), site.lines());
     if h.kind != kind {
         return None;
     }
@@ -132,128 +98,83 @@ fn left_at(s: &[u8], table: &[u16], i: usize, l: usize, lines: bool) -> Option<u
 }
 
 // A node that grows from its left operand: an operator, a conditional or a traversal.
-fn grown(
-    s: &[u8],
-    text: &[u8],
-    table: &[u16],
-    i: usize,
-    marks: &[u16],
-    depths: &mut [u8],
-    keys: &mut [u16],
-    first: usize,
-    own: u8,
-) -> bool
-    requires { Noding s.now table.now i marks.now depths.old keys.old own × Linked marks.now i first × (is_grown (row_at table.now i).kind ≡ true) }
-    ensures { RuleBy s.now text.now table.now i marks.now depths.old depths.new first own result }
+fn grown(site: Site, text: &[u8], depths: &mut [u8], first: usize) -> bool
+    requires { Heading site.s.now site.table.now site.i site.marks.now depths.old × Linked site.marks.now site.i first × (is_grown (row_at site.table.now site.i).kind ≡ true) }
+    ensures { RuleBy site.entry.s.now text.now site.entry.table.now site.entry.i site.entry.marks.now depths.old depths.new first site.entry.own result }
 {
-    if first == i {
+    if first == site.i {
         return false;
     }
-    let lines = multi_line(own);
-    let Some(e) = left_at(s, table, i, first, lines) else {
+    let Some(e) = left_at(site, first) else {
         return false;
     };
-    depths[first] = own;
-    let next = wide(marks[first]);
-    let end = wide(table[7 * first + 3]);
+    depths[first] = site.own;
+    let next = site.next(first);
+    let end = site.end(first);
     if e != end {
-        return operator(s, table, i, marks, depths, next, e, own, lines);
+        return operator(site, depths, next, e);
     }
-    growth(
-        s,
-        table,
-        i,
-        marks,
-        depths,
-        next,
-        end,
-        own,
-        levels(own),
-        lines,
-    )
+    growth(site, depths, next, end)
 }
 
 // A node that begins with its own bytes, or is told by its place, and holds no literal text.
 fn headed(
-    s: &[u8],
+    site: Site,
     text: &[u8],
-    table: &[u16],
-    i: usize,
-    marks: &[u16],
     depths: &mut [u8],
     keys: &mut [u16],
     told: &mut [u16],
     first: usize,
-    own: u8,
 ) -> bool
-    requires { Noding s.now table.now i marks.now depths.old keys.old own × Linked marks.now i first × (is_grown (row_at table.now i).kind ≡ false) × NoText (row_at table.now i).kind × Telling s.now table.now i told.old }
-    ensures { RuleBy s.now text.now table.now i marks.now depths.old depths.new first own result × Told s.now table.now told.new }
+    requires { Noding site.s.now site.table.now site.i site.marks.now depths.old keys.old site.own × Linked site.marks.now site.i first × (is_grown (row_at site.table.now site.i).kind ≡ false) × NoText (row_at site.table.now site.i).kind × Telling site.s.now site.table.now site.i told.old }
+    ensures { RuleBy site.entry.s.now text.now site.entry.table.now site.entry.i site.entry.marks.now depths.old depths.new first site.entry.own result × Told site.entry.s.now site.entry.table.now told.new }
 {
-    let kind = table[7 * i];
-    let start = wide(table[7 * i + 2]);
-    let lines = multi_line(own);
-    if !first_at(s, kind, start, lines) {
+    let kind = site.table[7 * site.i];
+    let start = site.start();
+    if !first_at(site.s, kind, start, site.lines()) {
         return false;
     }
-    let left = levels(own);
     if kind == Kind::OBJECT {
-        return object(
-            s, table, i, marks, depths, keys, told, first, start, left, lines,
-        );
+        return object(site, depths, keys, told, first, start);
     }
-    if first == i {
-        return lay(s, table, i, marks, depths, first, start, left, lines);
+    if first == site.i {
+        return lay(site, depths, first, start);
     }
-    layout(
-        s, table, i, kind, marks, depths, first, start, own, left, lines,
-    )
+    layout(site, depths, first, start)
 }
 
 // A node of any kind but a piece, over the children that are linked from the row `first` on.
 fn ruled(
-    s: &[u8],
+    site: Site,
     text: &[u8],
-    table: &[u16],
-    i: usize,
-    marks: &[u16],
     depths: &mut [u8],
     keys: &mut [u16],
     told: &mut [u16],
     first: usize,
-    own: u8,
 ) -> bool
-    requires { Noding s.now table.now i marks.now depths.old keys.old own × Linked marks.now i first × ((row_at table.now i).kind ≡ 9 → ⊥) × Telling s.now table.now i told.old }
-    ensures { RuleBy s.now text.now table.now i marks.now depths.old depths.new first own result × Told s.now table.now told.new }
+    requires { Noding site.s.now site.table.now site.i site.marks.now depths.old keys.old site.own × Linked site.marks.now site.i first × ((row_at site.table.now site.i).kind ≡ 9 → ⊥) × Telling site.s.now site.table.now site.i told.old }
+    ensures { RuleBy site.entry.s.now text.now site.entry.table.now site.entry.i site.entry.marks.now depths.old depths.new first site.entry.own result × Told site.entry.s.now site.entry.table.now told.new }
 {
-    let kind = table[7 * i];
+    let kind = site.table[7 * site.i];
     if kind == Kind::ITEM {
-        return item(
-            s,
-            table,
-            i,
-            marks,
-            depths,
-            first,
-            wide(table[7 * i + 2]),
-            own,
-        );
+        return item(site, depths, first, site.start());
     }
     if kind == Kind::STRING {
-        if first != i {
+        if first != site.i {
             return false;
         }
-        return string(s, text, table, i);
+        return string(site.s, text, site.table, site.i);
     }
     if kind == Kind::TEMPLATE {
-        return template(s, text, table, i, marks, depths, first, own);
+        return template(site, text, depths, first);
     }
     if kind == Kind::HEREDOC {
-        return heredoc(s, text, table, i, marks, depths, first, own);
+        return heredoc(site, text, depths, first);
     }
     if is_grown(kind) {
-        return grown(s, text, table, i, marks, depths, keys, first, own);
+        return grown(site, text, depths, first);
     }
-    headed(s, text, table, i, marks, depths, keys, told, first, own)
+    headed(site, text, depths, keys, told, first)
 }
 
 // Whether the rule holds at the i-th row. Its children's depths are put down, and their links; of an object, what is known of its keys.
@@ -283,5 +204,12 @@ pub fn node(
     let Some(first) = family(table, i, marks) else {
         return false;
     };
-    ruled(s, text, table, i, marks, depths, keys, told, first, own)
+    let site = Site {
+        s,
+        table,
+        i,
+        marks,
+        own,
+    };
+    ruled(site, text, depths, keys, told, first)
 }

@@ -1,14 +1,15 @@
 // A child of a node, in its place.
-ghost use Rattle.std.specs.Prelude.{◌≡◌, cond, ◌+◌, ◌*◌, ◌≤◌, length};
+ghost use Rattle.std.specs.Prelude.{◌≡◌, cond, ◌+◌, ◌*◌, ◌/◌, ◌%◌, ◌≤◌, eqb, length};
 ghost use Rattle.index.specs.Mark.{mark_at};
 ghost use Rattle.grammar.specs.Moves.{lone};
 ghost use Rattle.grammar.specs.Said.{wanted};
 ghost use Rattle.checker.specs.Child.{ChildBy};
-ghost use Rattle.checker.specs.Lay.{SuitsAt, Seating, KidBy, Meeting, met_from, MetAt, Passing, passed_from, PassedBy};
+ghost use Rattle.checker.specs.Lay.{SuitsAt, Seating, Meeting, met_from, MetAt, Passing, passed_from, PassedBy};
 
 use crate::precedence::groups;
 use crate::program::{Want, child, seat, sits};
 use crate::rows::wide;
+use crate::site::Site;
 use index::{find, insert};
 
 // What a name and a part bind tighter than.
@@ -23,7 +24,7 @@ pub struct Passed {
 }
 
 // Whether the j-th row starts at a place, is not empty, binds tighter than a bound and is of a kind that is wanted.
-fn suits(table: &[u16], j: usize, at: usize, bound: usize, want: Want) -> bool
+pub fn suits(table: &[u16], j: usize, at: usize, bound: usize, want: Want) -> bool
     requires { 7 * j + 7 ≤ length table.now }
     ensures { SuitsAt table.now j at bound (wanted want) result }
 {
@@ -40,30 +41,6 @@ fn suits(table: &[u16], j: usize, at: usize, bound: usize, want: Want) -> bool
         return false;
     }
     sits(want, x)
-}
-
-// Whether the j-th row, a child of the i-th that is no item, suits its place. Then its depth is put down.
-pub fn kid(
-    table: &[u16],
-    i: usize,
-    depths: &mut [u8],
-    j: usize,
-    at: usize,
-    bound: usize,
-    want: Want,
-    depth: u8,
-) -> bool
-    requires { Seating table.now i depths.old j }
-    ensures { KidBy table.now i depths.old depths.new j at bound (wanted want) depth result }
-{
-    if j == i {
-        return false;
-    }
-    if !suits(table, j, at, bound, want) {
-        return false;
-    }
-    depths[j] = depth;
-    true
 }
 
 // Of an item that starts at p, whose key has the mark m: nothing where its key is one of the n in the slots of `keys`, else how many are kept there. One that stands
@@ -106,58 +83,44 @@ pub fn packed(left: usize, lines: bool) -> u8
     }
 }
 
-// The same for a child of a class of the program, in a node with so many levels left, where a line end may stand or not.
-pub fn child_at(
-    table: &[u16],
-    i: usize,
-    depths: &mut [u8],
-    j: usize,
-    at: usize,
-    class: u8,
-    left: usize,
-    lines: bool,
-) -> bool
-    requires { Seating table.now i depths.old j × (left ≤ 127) }
-    ensures { ChildBy table.now i depths.old depths.new j class left lines at result }
+// The j-th row as a child of a class of the program, which is no item's.
+pub fn child_at(site: Site, depths: &mut [u8], j: usize, at: usize, class: u8) -> bool
+    requires { Seating site.table.now site.i depths.old j }
+    ensures { ChildBy site.entry.table.now site.entry.i depths.old depths.new j class (site.entry.own / 2) (eqb (site.entry.own % 2) 1) at result }
 {
-    let y = child(class, left, lines);
+    let y = child(class, site.left(), site.lines());
     let depth = packed(y.left, y.lines);
-    kid(table, i, depths, j, at, y.bound, y.want, depth)
+    site.kid(depths, j, at, y.bound, y.want, depth)
 }
 
-// The j-th row as a child of a class at a place, in the node of the i-th row, after n keys. Of an item there the key has the mark m, and `alone` says whether it stands
-// alone. Where it is right its depth is put down.
+// The j-th row as a child of a class at a place, after n keys. Of an item there the key has the mark m, and `alone` says whether it stands alone. Where it is right its
+// depth is put down.
 pub fn pass(
-    s: &[u8],
-    table: &[u16],
-    i: usize,
-    marks: &[u16],
+    site: Site,
     depths: &mut [u8],
     keys: &mut [u16],
     j: usize,
     n: usize,
     class: u8,
-    left: usize,
-    lines: bool,
     at: usize,
     m: u16,
     alone: bool,
 ) -> Option<Passed>
-    requires { Passing s.now table.now i marks.now depths.old keys.old j n class left at m alone }
-    ensures { PassedBy s.now table.now i marks.now depths.old depths.new keys.old keys.new j n class left lines at (passed_from n result) }
+    requires { Passing site.s.now site.table.now site.i site.marks.now depths.old keys.old j n class (site.own / 2) at m alone }
+    ensures { PassedBy site.entry.s.now site.entry.table.now site.entry.i site.entry.marks.now depths.old depths.new keys.old keys.new j n class (site.entry.own / 2) (eqb (site.entry.own % 2) 1) at (passed_from n result) }
 {
-    if j == i {
+    if j == site.i {
         return None;
     }
-    let y = child(class, left, lines);
-    if !suits(table, j, at, y.bound, y.want) {
+    let y = child(class, site.left(), site.lines());
+    if !suits(site.table, j, at, y.bound, y.want) {
         return None;
     }
-    let kept = meet(s, keys, n, table[7 * j + 2], m, y.want, alone)?;
+    let kept = meet(site.s, keys, n, site.table[7 * j + 2], m, y.want, alone)?;
     depths[j] = packed(y.left, y.lines);
     Some(Passed {
-        end: wide(table[7 * j + 3]),
-        next: wide(marks[j]),
+        end: site.end(j),
+        next: site.next(j),
         keys: kept,
     })
 }

@@ -65,13 +65,7 @@ pub fn instr(pc: usize) -> Instr
     if pc < 228 {
         return program::instr(pc);
     }
-    let x = word(pc - 228);
-    Instr {
-        op: (x % 256) as u8,
-        arg: (x / 256 % 256) as usize,
-        class: (x / 65536 % 256) as u8,
-        next: (x / 16777216) as usize,
-    }
+    program::unpacked(word(pc - 228))
 }
 
 // What a child of a class is under, in a node with so many levels left, where a line end may stand or not.

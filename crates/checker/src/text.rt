@@ -1,7 +1,7 @@
 // The text numbers of a record, and its text.
 ghost use Rattle.std.specs.Prelude.{◌≡◌, ◌+◌, ◌*◌, ◌≤◌, length};
 ghost use Rattle.lexis.specs.Bytes.{stands};
-ghost use Rattle.lexis.specs.String.{unpacked, mode_of};
+ghost use Rattle.lexis.specs.String.{unpacked, mode_from};
 ghost use Rattle.checker.specs.Rows.{row_at};
 ghost use Rattle.checker.specs.Leaf.{used_from, Columns, PieceAt, StringAt};
 ghost use Rattle.checker.specs.LeafMore.{used_by, Spells, Told};
@@ -9,7 +9,7 @@ ghost use Rattle.checker.specs.LeafMore.{used_by, Spells, Told};
 use crate::row::{Row, row_at};
 use crate::rows::wide;
 use lexis::bytes::{one_at, two_at};
-use lexis::string::{Run, Why, run_at, unit_at};
+use lexis::string::{Round, Run, Why, run_at, unit_at};
 
 // The text numbers of a string or a piece, whose text without an escape is the b bytes of the source from a on.
 fn own(flag: usize, from: usize, length: usize, a: usize, b: usize, u: usize) -> Option<usize>
@@ -98,32 +98,23 @@ fn told(s: &[u8], text: &[u8], p: usize, plain: bool, t: Run, r: Row) -> bool
     spells(s, p, t.end, plain, text, r.from)
 }
 
-// Whether the i-th record is a piece of the text round it, and its text stands where it says; in quoted text, or in a heredoc whose delimiter stands in the source
-// from d to e.
-pub fn piece(
-    s: &[u8],
-    text: &[u8],
-    table: &[u16],
-    i: usize,
-    plain: bool,
-    d: usize,
-    e: usize,
-) -> bool
+// Whether the i-th record is a piece of the text round it, and its text stands where it says.
+pub fn piece(s: &[u8], text: &[u8], table: &[u16], i: usize, round: Round) -> bool
     requires { 7 * i + 7 ≤ length table.now }
-    ensures { PieceAt (mode_of s.now plain d e) s.now text.now (row_at table.now i) result }
+    ensures { PieceAt (mode_from s.now round) s.now text.now (row_at table.now i) result }
 {
     let r = row_at(table, i);
     if two_at(s, r.start, 36, 123) {
         return false;
     }
-    let t = run_at(s, r.start, plain, d, e);
+    let t = run_at(s, r.start, round);
     if r.end <= r.start {
         return false;
     }
     if r.end != t.end {
         return false;
     }
-    told(s, text, r.start, plain, t, r)
+    told(s, text, r.start, round.is_quoted(), t, r)
 }
 
 // Whether the i-th record, of a string, is the string at its start, and its text stands where it says.
@@ -136,7 +127,7 @@ pub fn string(s: &[u8], text: &[u8], table: &[u16], i: usize) -> bool
         return false;
     }
     let p = r.start + 1;
-    let t = run_at(s, p, true, 0, 0);
+    let t = run_at(s, p, Round::Quoted);
     if t.why != Why::Quote {
         return false;
     }

@@ -1,5 +1,7 @@
 -- What a place calls for, by the byte that stands there.
-use Rattle.std.specs.Prelude.{unwrap_or, Option}
+use Rattle.lexis.specs.declared.string.Why.{Why}
+use Rattle.lexis.specs.declared.string.Why.TheVariants as why
+use Rattle.std.specs.Prelude.{unwrap_or, Option, None, Some}
 use Rattle.lexis.specs.Word.{kind_or_none}
 use Prim.Native.Nat.{ℕ, zero, suc, ◌+◌}
 use mathlib.Core.Path.{◌≡◌, refl, sym, ap, ◌∙◌}
@@ -20,9 +22,9 @@ use Rattle.lexis.specs.String.{quoted, RunHere}
 use Rattle.lexis.specs.RunLaws.{clash, stands_cons, stands_one, stands_two}
 use Rattle.lexis.specs.Keys.{key_to}
 use Rattle.engine.specs.Base.{choose}
-use Rattle.grammar.specs.Moves.{an_expression, a_part, is_part, behind_key, lone}
+use Rattle.grammar.specs.Moves.{an_expression, a_part, is_part, lone}
 use Rattle.grammar.specs.Hcl.{beyond, is_for, is_broken, is_template, terms, pick_at, follows, follow_in, follow_at, under}
-use Rattle.grammar.specs.Said.{kind_of, TermAt, PartAt, Follow, byte_beyond, calls_at, word_kind, for_beyond, broken_at, colon_at}
+use Rattle.grammar.specs.Said.{kind_from, kind_of, TermAt, PartAt, Follow, byte_beyond, calls_at, word_kind, for_beyond, broken_at, colon_at, sign_at}
 
 -- ---- behind trivia
 
@@ -76,8 +78,24 @@ pub second : (b : Bool) (x y : ℕ) → b ≡ false → y ≡ cond b x y
 second b x y e = rw e
 
 -- quoted text: why its run ends
-pub broken_by : {s : List ℕ} {q : ℕ} {t : Run} {r v : Bool} → RunHere quoted s q t → r ≡ is_broken t.why → r ≡ v → broken_at s q ≡ v
-broken_by h e f = ap (λ (x : Run). is_broken x.why) (sym h.is) ∙ sym e ∙ f
+unbroken : (y : Why) → (y ≡ why.Interpolation → ⊥) → is_broken y ≡ false
+unbroken why.Quote n = refl
+unbroken why.Interpolation n = absurd (n refl)
+unbroken why.Directive n = refl
+unbroken why.Escape n = refl
+unbroken why.Closing n = refl
+unbroken why.Foreign n = refl
+unbroken why.End n = refl
+
+module _ {s : List ℕ} {q : ℕ} {t : Run} (h : RunHere quoted s q t) where
+  broken_by : broken_at s q ≡ is_broken t.why
+  broken_by = ap (λ (x : Run). is_broken x.why) (sym h.is)
+
+  pub broken_yes : t.why ≡ why.Interpolation → broken_at s q ≡ true
+  broken_yes e = broken_by ∙ ap is_broken e
+
+  pub broken_no : (t.why ≡ why.Interpolation → ⊥) → broken_at s q ≡ false
+  broken_no n = broken_by ∙ unbroken t.why n
 
 -- ---- words
 
@@ -111,6 +129,11 @@ module _ {s : List ℕ} {p e : ℕ} (lines : Bool) {c : Bool} (h : Ran s p (iden
 pub kind_by : (P : ℕ → Type 0) (n : ℕ) {o : Option ℕ} {k : ℕ} → o ≡ kind_or_none n → k ≡ unwrap_or o 5 → ((n ≡ 0 → ⊥) → P n) → (n ≡ 0 → P 5) → P k
 kind_by P zero e f f₁ f₂ = rw (f, e) (f₂ refl)
 kind_by P (suc n) e f f₁ f₂ = rw (f, e) (f₁ (λ z. omega arith))
+
+-- a kind, 0 for none
+pub kind_or : (o : Option ℕ) → unwrap_or o 0 ≡ kind_from o
+kind_or None = refl
+kind_or (Some k) = refl
 
 -- ---- terms
 
@@ -316,25 +339,23 @@ module _ {s : List ℕ} {a : ℕ} {b : ℕ} (h : Byte s a b) where
   pub key_string : {t : Run} → b ≡ 34 → RunHere quoted s (a + 1) t → t.end + 1 ≡ key_to s a
   key_string e f = rw (eq-eqb (byte_at s a) 34 (sym h.is ∙ e)) (omega (arith, ap (λ (x : Run). x.end) f.is))
 
-module _ (s : List ℕ) {k q : ℕ} (a : ℕ) (h : k ≡ key_to s a) (f : q ≡ (gap_to false s k).at) where
-  behind : q ≡ behind_key s a
-  behind = f ∙ ap (λ (x : ℕ). (gap_to false s x).at) h
-
-  lone_by : lone s a ≡ (not (eqb (equals_to s q) q) || colon_at s q)
-  lone_by = ap (λ (x : ℕ). not (eqb (equals_to s x) x) || colon_at s x) (sym behind)
-
+module _ (s : List ℕ) (q : ℕ) where
   colon_bytes : colon_at s q ≡ (eqb (byte_at s q) 58 && not ((eqb (byte_at s q) 58 && eqb (byte_at s (q + 1)) 58) || false))
   colon_bytes = rw (stands_one 58 s q refl, stands_two 58 58 s q refl refl)
 
   module _ {e : ℕ} (i : Ran s q (equals_to s q) e) where
-    pub lone_equals : (e ≡ q → ⊥) → true ≡ lone s a
-    lone_equals n = sym (lone_by ∙ rw (ne_eqb (equals_to s q) q (λ z. n (i.is ∙ z))))
+    pub signs_equals : (e ≡ q → ⊥) → true ≡ sign_at s q
+    signs_equals n = sym (rw (ne_eqb (equals_to s q) q (λ z. n (i.is ∙ z))))
 
     module _ {b : ℕ} (z : e ≡ q) (c : Byte s q b) where
-      pub lone_none : (b ≡ 58 → ⊥) → false ≡ lone s a
-      lone_none n = sym (lone_by ∙ rw (eq-eqb (equals_to s q) q (sym i.is ∙ z), colon_bytes, ne_eqb (byte_at s q) 58 (λ w. n (c.is ∙ w))))
+      pub signs_none : (b ≡ 58 → ⊥) → false ≡ sign_at s q
+      signs_none n = sym (rw (eq-eqb (equals_to s q) q (sym i.is ∙ z), colon_bytes, ne_eqb (byte_at s q) 58 (λ w. n (c.is ∙ w))))
 
-      pub lone_colon : {d : ℕ} → b ≡ 58 → Byte s (q + 1) d → not (eqb d 58) ≡ lone s a
-      lone_colon n m =
+      pub signs_colon : {d : ℕ} → b ≡ 58 → Byte s (q + 1) d → not (eqb d 58) ≡ sign_at s q
+      signs_colon n m =
           ap (λ (x : ℕ). not (eqb x 58)) m.is
-          ∙ sym (lone_by ∙ rw (eq-eqb (equals_to s q) q (sym i.is ∙ z), colon_bytes, eq-eqb (byte_at s q) 58 (sym c.is ∙ n), or-false (eqb (byte_at s (q + 1)) 58)))
+          ∙ sym (rw (eq-eqb (equals_to s q) q (sym i.is ∙ z), colon_bytes, eq-eqb (byte_at s q) 58 (sym c.is ∙ n), or-false (eqb (byte_at s (q + 1)) 58)))
+
+-- a key alone, by the place behind its token's space
+pub lone_by : (s : List ℕ) (a : ℕ) {k q : ℕ} → k ≡ key_to s a → q ≡ (gap_to false s k).at → sign_at s q ≡ lone s a
+lone_by s a h f = ap (sign_at s) (f ∙ ap (λ (x : ℕ). (gap_to false s x).at) h)

@@ -1,11 +1,12 @@
 -- What the code of this crate promises, in records with named parts.
+use Rattle.std.specs.Prelude as prelude
 use Rattle.std.specs.Prelude.{ℕ, zero, suc, ◌+◌, ◌-◌, ◌*◌, ◌≤◌, ◌≡◌, List, [], ◌∷◌, Bool, true, false, cond, not, ◌||◌, length, get_or, T, eqb, Result, Ok, Err}
 use Rattle.std.proofs.Math.Option.{Option, none, some}
 use Rattle.lexis.specs.Bytes.{nothing, byte_at, stands}
 use Rattle.lexis.specs.Trivia.{Gap, gap_to}
 use Rattle.lexis.specs.Word.{null, yes, ident_to, is_word, for_to}
 use Rattle.lexis.specs.Word as words
-use Rattle.lexis.specs.Operator.{is_mark}
+use Rattle.lexis.specs.Operator.{is_mark, equals_to}
 use Rattle.lexis.specs.String.{quoted, text_at}
 use Rattle.engine.specs.Base.{Rec, has}
 use Rattle.grammar.specs.declared.kinds.Refused.{Refused}
@@ -155,6 +156,11 @@ abbrev pub kind_of : Option ℕ → ℕ
 kind_of none = 0
 kind_of (some k) = k
 
+-- the same of the code's answer
+abbrev pub kind_from : prelude.Option ℕ → ℕ
+kind_from prelude.None = 0
+kind_from (prelude.Some k) = k
+
 -- `r` is the kind that a place calls for under a want; that may follow an operand. The levels left do not matter, nor does the mode for a part
 abbrev pub TermAt : List ℕ → ℕ → Bool → ℕ → Type 0
 TermAt s p lines r = (left : ℕ) → r ≡ kind_of (pick_at s (under left lines an_expression) p)
@@ -188,3 +194,7 @@ broken_at s q = is_broken (text_at quoted s q).why
 -- `:`, but not `::`
 abbrev pub colon_at : List ℕ → ℕ → Bool
 colon_at s q = is_mark (58 ∷ []) ((58 ∷ 58 ∷ []) ∷ []) s q
+
+-- a sign: `=`, but neither `=>` nor `==`; or `:`, but not `::`
+abbrev pub sign_at : List ℕ → ℕ → Bool
+sign_at s q = not (eqb (equals_to s q) q) || colon_at s q

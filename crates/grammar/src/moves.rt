@@ -138,7 +138,7 @@ fn part(s: &[u8], p: usize) -> Result<usize, Refused>
 fn unless(s: &[u8], p: usize, x: u8) -> Result<usize, Refused>
     ensures { Plain s.now (unless x) p (went_from result) }
 {
-    if byte_at(s, p) == x as u16 {
+    if byte_at(s, p) == u16::from(x) {
         Err(unexpected(s, p))
     } else {
         Ok(p)
@@ -184,7 +184,7 @@ pub fn atom(s: &[u8], left: usize, lines: bool, code: u8, x: u8, p: usize) -> Re
         10 => token(s, p, ident_end(s, p)),
         11 => token(s, p, number_end(s, p)),
         12 => legacy(s, p),
-        13 => operator(s, p, x as u16),
+        13 => operator(s, p, u16::from(x)),
         14 => part(s, p),
         15 => unless(s, p, x),
         16 => comma(s, p),

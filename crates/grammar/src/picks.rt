@@ -1,19 +1,19 @@
 // What a place calls for, and what may follow an operand: kinds, 0 for none.
-ghost use Rattle.std.specs.Prelude.{◌≡◌, true, false, cond};
+ghost use Rattle.std.specs.Prelude.{◌≡◌, ◌<◌, true, false, cond, IfSome};
 ghost use Rattle.lexis.specs.Bytes.{is_digit};
 ghost use Rattle.lexis.specs.Trivia.{gap_to};
 ghost use Rattle.lexis.specs.Keys.{key_to};
 ghost use Rattle.grammar.specs.Moves.{lone};
 ghost use Rattle.grammar.specs.Hcl.{is_broken};
 ghost use Rattle.grammar.specs.Alone.{head_of, HeadAt, Lasting, NextAt, sign_from, SignOf, KeyAt};
-ghost use Rattle.grammar.specs.Said.{TermAt, PartAt, Follow, byte_beyond, calls_at, word_kind, for_beyond, broken_at, colon_at};
+ghost use Rattle.grammar.specs.Said.{kind_from, TermAt, PartAt, Follow, byte_beyond, calls_at, word_kind, for_beyond, broken_at, colon_at, sign_at};
 
 use crate::kinds::Kind;
 use crate::moves::is_part;
 use lexis::bytes::{NOTHING, byte_at, is_digit, is_start, two_at};
 use lexis::number::number_end;
 use lexis::operator::{equals_end, op_at};
-use lexis::string::{Why, run_at};
+use lexis::string::{Round, Why, run_at};
 use lexis::trivia::{skip, skip_line};
 use lexis::word::{constant_at, for_end, ident_end};
 
@@ -58,7 +58,8 @@ fn calls(s: &[u8], e: usize, lines: bool) -> bool
 
 // What the identifier at p begins.
 fn word_at(s: &[u8], p: usize, lines: bool) -> u16
-    ensures { result ≡ word_kind s.now lines p }
+    ensures kind { result ≡ word_kind s.now lines p }
+    ensures some { 0 < result }
 {
     let e = ident_end(s, p);
     if calls(s, e, lines) {
@@ -89,61 +90,45 @@ fn for_at(s: &[u8], q: usize, yes: u16, no: u16) -> u16
     if for_end(s, at) == at { no } else { yes }
 }
 
-fn broken(why: Why) -> bool
-    ensures { result ≡ is_broken why }
-{
-    match why {
-        Why::Quote => false,
-        Why::Interpolation => true,
-        Why::Directive => false,
-        Why::Escape => false,
-        Why::Closing => false,
-        Why::Foreign => false,
-        Why::End => false,
-    }
-}
-
 // What the quote before q begins.
 fn quote_before(s: &[u8], q: usize) -> u16
     ensures { result ≡ cond (broken_at s.now q) 7 6 }
 {
-    let t = run_at(s, q, true, 0, 0);
-    let why = t.why;
-    if broken(why) {
-        Kind::TEMPLATE
-    } else {
-        Kind::STRING
+    match run_at(s, q, Round::Quoted).why {
+        Why::Interpolation => Kind::TEMPLATE,
+        _ => Kind::STRING,
     }
 }
 
 // The term that may start at p.
-pub fn term_at(s: &[u8], p: usize, lines: bool) -> u16
-    ensures { TermAt s.now p lines result }
+pub fn term_at(s: &[u8], p: usize, lines: bool) -> Option<u16>
+    ensures kind { TermAt s.now p lines (kind_from result) }
+    ensures some { IfSome result (λ k. 0 < k) }
 {
     let b = byte_at(s, p);
     if is_digit(b) {
-        return Kind::NUMBER;
+        return Some(Kind::NUMBER);
     }
     if is_start(b) {
-        return word_at(s, p, lines);
+        return Some(word_at(s, p, lines));
     }
     match b {
-        45 => minus_before(s, p + 1),
+        45 => Some(minus_before(s, p + 1)),
         33 => if byte_at(s, p + 1) == 61 {
-            Kind::NONE
+            None
         } else {
-            Kind::NOT
+            Some(Kind::NOT)
         },
-        40 => Kind::PARENTHESES,
-        91 => for_at(s, p + 1, Kind::LIST_FOR, Kind::ARRAY),
-        123 => for_at(s, p + 1, Kind::OBJECT_FOR, Kind::OBJECT),
-        34 => quote_before(s, p + 1),
+        40 => Some(Kind::PARENTHESES),
+        91 => Some(for_at(s, p + 1, Kind::LIST_FOR, Kind::ARRAY)),
+        123 => Some(for_at(s, p + 1, Kind::OBJECT_FOR, Kind::OBJECT)),
+        34 => Some(quote_before(s, p + 1)),
         60 => if byte_at(s, p + 1) == 60 {
-            Kind::HEREDOC
+            Some(Kind::HEREDOC)
         } else {
-            Kind::NONE
+            None
         },
-        _ => Kind::NONE,
+        _ => None,
     }
 }
 
@@ -163,7 +148,7 @@ pub fn head_at(s: &[u8], p: usize, lines: bool) -> Head
         return headed(Kind::NUMBER, e);
     }
     if !is_start(b) {
-        let k = term_at(s, p, lines);
+        let k = term_at(s, p, lines).unwrap_or(Kind::NONE);
         return headed(k, p);
     }
     let e = ident_end(s, p);
@@ -174,49 +159,51 @@ pub fn head_at(s: &[u8], p: usize, lines: bool) -> Head
 }
 
 // The part of a traversal that may start at p.
-pub fn part_at(s: &[u8], p: usize) -> u16
-    ensures { PartAt s.now p result }
+pub fn part_at(s: &[u8], p: usize) -> Option<u16>
+    ensures kind { PartAt s.now p (kind_from result) }
+    ensures some { IfSome result (λ k. 0 < k) }
 {
     let b = byte_at(s, p);
     if b == 91 {
         let c = beyond(s, p + 1, true);
         return if c == 42 {
-            Kind::FULL_SPLAT
+            Some(Kind::FULL_SPLAT)
         } else {
-            Kind::INDEX
+            Some(Kind::INDEX)
         };
     }
     if b != 46 {
-        return Kind::NONE;
+        return None;
     }
     let c = beyond(s, p + 1, true);
     if c == 42 {
-        return Kind::ATTRIBUTE_SPLAT;
+        return Some(Kind::ATTRIBUTE_SPLAT);
     }
     if is_digit(c) {
-        Kind::LEGACY_INDEX
+        Some(Kind::LEGACY_INDEX)
     } else {
-        Kind::ATTRIBUTE
+        Some(Kind::ATTRIBUTE)
     }
 }
 
 // What may follow an operand that ends at p: an operator, a conditional or a traversal.
-pub fn follow(s: &[u8], p: usize, lines: bool) -> u16
-    ensures { Follow s.now p lines result }
+pub fn follow(s: &[u8], p: usize, lines: bool) -> Option<u16>
+    ensures kind { Follow s.now p lines (kind_from result) }
+    ensures some { IfSome result (λ k. 0 < k) }
 {
     let Ok(at) = skip(s, p, lines) else {
-        return Kind::NONE;
+        return None;
     };
     if let Some(o) = op_at(s, at) {
-        return o.kind;
+        return Some(o.kind);
     }
     if byte_at(s, at) == 63 {
-        return Kind::CONDITIONAL;
+        return Some(Kind::CONDITIONAL);
     }
     if is_part(s, at) {
-        Kind::TRAVERSAL
+        Some(Kind::TRAVERSAL)
     } else {
-        Kind::NONE
+        None
     }
 }
 
@@ -269,7 +256,7 @@ pub fn key_end(s: &[u8], a: usize) -> usize
     if byte_at(s, a) != 34 {
         return ident_end(s, a);
     }
-    let t = run_at(s, a + 1, true, 0, 0);
+    let t = run_at(s, a + 1, Round::Quoted);
     let e = t.end;
     e + 1
 }
@@ -289,7 +276,13 @@ pub fn lone(s: &[u8], a: usize) -> bool
     ensures { result ≡ lone s.now a }
 {
     let k = key_end(s, a);
-    let q = space_end(s, k);
+    signs(s, space_end(s, k))
+}
+
+// Whether a sign stands at q: `=`, but neither `=>` nor `==`; or `:`, but not `::`.
+pub fn signs(s: &[u8], q: usize) -> bool
+    ensures { result ≡ sign_at s.now q }
+{
     if equals_end(s, q) != q {
         return true;
     }

@@ -1,6 +1,6 @@
 // The layouts as a program: for each kind a start, and from there instructions to go through its moves and children.
 ghost use Rattle.std.specs.Prelude.{◌≡◌, ◌-◌};
-ghost use Rattle.grammar.specs.Code.{code, begin};
+ghost use Rattle.grammar.specs.Code.{code, begin, operation, argument, class, otherwise};
 ghost use Rattle.grammar.specs.Said.{Worded, Instructed, child_from, ChildOf};
 
 pub use crate::shape::{Child, Instr, Want};
@@ -242,17 +242,23 @@ fn word(pc: usize) -> u32
     }
 }
 
-// The instruction at pc; all 0 past the program's end.
-pub fn instr(pc: usize) -> Instr
-    ensures { Instructed pc result }
+// An instruction out of one number: operation, argument, class and where to go on, a byte each, the first lowest.
+pub fn unpacked(x: u32) -> Instr
+    ensures { result ≡ record { op = operation x; arg = argument x; class = class x; next = otherwise x } }
 {
-    let x = word(pc);
     Instr {
         op: (x % 256) as u8,
         arg: (x / 256 % 256) as usize,
         class: (x / 65536 % 256) as u8,
         next: (x / 16777216) as usize,
     }
+}
+
+// The instruction at pc; all 0 past the program's end.
+pub fn instr(pc: usize) -> Instr
+    ensures { Instructed pc result }
+{
+    unpacked(word(pc))
 }
 
 // Where the program of a kind starts; 0 for the kinds that have none. Long, as a line for each kind is a table that stays.
@@ -357,7 +363,7 @@ pub fn child(class: u8, left: usize, lines: bool) -> Child
         _ => Child {
             left,
             lines,
-            bound: (class % 16) as usize,
+            bound: usize::from(class % 16),
             want: Want::Expression,
         },
     }

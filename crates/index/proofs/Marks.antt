@@ -12,7 +12,7 @@ use Rattle.lexis.specs.Word.{ident_to}
 use Rattle.lexis.specs.Heredoc.{fresh_at}
 use Rattle.lexis.specs.String.{Unit, is, not, quoted, Text, unit, unit_in, text_at, packed, unpacked, Piece, piece_of, piece_from, UnitAt, RunHere}
 use Rattle.lexis.specs.Keys.{rest_of}
-use Rattle.lexis.specs.RunLaws.{default, empty, inside, clash, run_on, run_stop, run_end, run_high}
+use Rattle.lexis.specs.RunLaws.{default, inside, clash, run_on, run_stop, run_end, run_high}
 use Rattle.lexis.specs.declared.string.Unit.{Unit as Made}
 use Rattle.lexis.specs.declared.string.Why.{Why}
 use Rattle.std.specs.Prelude.{Ok, Err}
@@ -70,10 +70,6 @@ module _ {s : List ℕ} {m₀ : ℕ} {l : List ℕ} {i m b : ℕ} (g : Mixing m�
     word_more f = mix_more g b (rest_of (drop (i + 1) s)) (rw h.is (rest_on s i (rw h.is at e))) f.0 f.1
 
 -- the source ends
-pub word_over : (s : List ℕ) (i : ℕ) {m₀ : ℕ} {l : List ℕ} {m : ℕ} → Mixing m₀ l (rest_of (drop i s)) m → length s ≤ i → Mixed m₀ l m
-unfolding run
-word_over s i g h = mix_end g (rw (empty s i h))
-
 -- a byte that stands within the source
 pub byte_here : (s : List ℕ) (i : ℕ) → i < length s → get_or s i 0 ≤ 255 → Byte s i (get_or s i 0)
 byte_here s i h l = record { is = default s i 0 256 h; low = omega arith; here = omega arith }
@@ -187,10 +183,6 @@ module _ {s : List ℕ} {p b : ℕ} (h : Byte s p b) where
     pub mark_none : is_start b ≡ false → 0 ≡ mark_at s p
     unfolding mark_at
     mark_none e = rw (not_text, rw h.is at e)
-
-    pub mark_word : {r : ℕ} → is_start b ≡ true → Mixed 0 (rest_of (drop p s)) r → r ≡ mark_at s p
-    unfolding mark_at
-    mark_word e f = f.is ∙ rw (not_text, rw h.is at e)
 
     pub token_none : is_start b ≡ false → TokenHere s p (record { end = p; mark = 0 })
     token_none e = record { end = sym (rw (not_text, rw h.is at e)); mark = mark_none e }

@@ -6,7 +6,7 @@ ghost use Rattle.lexis.specs.String.{quoted, text_at, unpacked};
 ghost use Rattle.index.specs.Mark.{mixed, mark_at, Mixed, WordTo, TokenHere};
 
 use lexis::bytes::{byte_at, is_rest, is_start, within};
-use lexis::string::{run_at, unit_at};
+use lexis::string::{Round, run_at, unit_at};
 
 // The mark m with the byte b behind it.
 fn mix(m: u32, b: u32) -> u32
@@ -14,22 +14,6 @@ fn mix(m: u32, b: u32) -> u32
     ensures { (result ≡ mixed m b) × (result ≤ 65535) }
 {
     (m * 40503 + b) % 65536
-}
-
-// The mark of the identifier characters from p on.
-fn word(s: &[u8], p: usize) -> u32
-    requires { p ≤ length s.now }
-    ensures { Mixed 0 (rest_of (drop p s.now)) result }
-{
-    let mut m: u32 = 0;
-    for b in &s[p..] {
-        let b = u16::from(*b);
-        if !is_rest(b) {
-            return m;
-        }
-        m = mix(m, u32::from(b));
-    }
-    m
 }
 
 // The mark m with the bytes of a unit behind it: they are in one number, the first lowest, and n of them.
@@ -82,7 +66,7 @@ pub fn mark(s: &[u8], p: usize) -> u16
     if !is_start(b) {
         return 0;
     }
-    word(s, p) as u16
+    word_at(s, p).mark
 }
 
 // The first token of a key, a word or a plain string: its end, and the key's mark.
@@ -99,14 +83,14 @@ fn word_at(s: &[u8], p: usize) -> Token
 {
     let mut m: u32 = 0;
     for i in p..s.len() {
-        let b = s[i] as u16;
+        let b = byte_at(s, i);
         if !within(b, 97, 122) && !is_rest(b) {
             return Token {
                 end: i,
                 mark: m as u16,
             };
         }
-        m = mix(m, b as u32);
+        m = mix(m, u32::from(b));
     }
     Token {
         end: s.len(),
@@ -125,7 +109,7 @@ pub fn token_at(s: &[u8], p: usize) -> Token
     if b != 34 {
         return Token { end: p, mark: 0 };
     }
-    let t = run_at(s, p + 1, true, 0, 0);
+    let t = run_at(s, p + 1, Round::Quoted);
     let e = t.end;
     let m = text(s, p + 1);
     Token {

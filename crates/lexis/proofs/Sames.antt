@@ -124,8 +124,8 @@ module _ (s starts : List ℕ) (from to p k : ℕ) (inv : among s (part starts k
     unfolding among
     search_next f = sym inv ∙ rw (part_next starts to k (omega arith), default starts k 256 0 (omega arith), f)
 
-    pub search_on : same_key s (get_or starts k 0) p ≡ false → among s (part starts (k + 1) to) p ≡ met_before s starts from to p
-    search_on f = sym (search_next f)
+    pub search_on : {a : ℕ} → a ≡ get_or starts k 0 → same_key s a p ≡ false → among s (part starts (k + 1) to) p ≡ met_before s starts from to p
+    search_on e f = sym (search_next (rw e at f))
 
-    pub search_met : same_key s (get_or starts k 0) p ≡ true → met_before s starts from to p ≡ true
-    search_met f = search_next f
+    pub search_met : {a : ℕ} → a ≡ get_or starts k 0 → same_key s a p ≡ true → met_before s starts from to p ≡ true
+    search_met e f = search_next (rw e at f)

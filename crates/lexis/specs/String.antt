@@ -5,6 +5,8 @@ use Rattle.std.proofs.Math.Option.{Option, none, some}
 use Rattle.lexis.specs.Bytes.{byte_at, is_digit, is_hex}
 use Rattle.lexis.specs.Utf8.{is_scalar, encoded}
 use Rattle.lexis.specs.Heredoc.{closing, fresh_at, part}
+use Rattle.lexis.specs.declared.string.Round.{Round}
+use Rattle.lexis.specs.declared.string.Round.TheVariants as rounds
 use Rattle.lexis.specs.declared.heredoc.Line.{Line}
 use Rattle.lexis.specs.declared.heredoc.Line.TheVariants as line
 use Rattle.lexis.specs.declared.string.Why.{Why}
@@ -129,6 +131,22 @@ text_at m s p = text_after m (fresh_at s p) 0 (drop p s)
 abbrev pub mode_of : List ℕ → Bool → ℕ → ℕ → Mode
 mode_of s true d e = quoted
 mode_of s false d e = heredoc (part s d e)
+
+-- the same of the code's enum
+abbrev pub quoted_of : Round → Bool
+quoted_of rounds.Quoted = true
+quoted_of (rounds.Heredoc d e) = false
+
+abbrev pub from_of : Round → ℕ
+from_of rounds.Quoted = 0
+from_of (rounds.Heredoc d e) = d
+
+abbrev pub to_of : Round → ℕ
+to_of rounds.Quoted = 0
+to_of (rounds.Heredoc d e) = e
+
+abbrev pub mode_from : List ℕ → Round → Mode
+mode_from s r = mode_of s (quoted_of r) (from_of r) (to_of r)
 
 -- what the code says of a run from p
 abbrev pub run_of : ℕ → Text → Run

@@ -8,7 +8,11 @@ pub const NOTHING: u16 = 256;
 pub fn byte_at(s: &[u8], p: usize) -> u16
     ensures { Byte s.now p result }
 {
-    if p < s.len() { s[p] as u16 } else { NOTHING }
+    if p < s.len() {
+        u16::from(s[p])
+    } else {
+        NOTHING
+    }
 }
 
 pub fn is_space(b: u16) -> bool

@@ -107,7 +107,7 @@ pub fn met_before(s: &[u8], starts: &[u16], from: usize, to: usize, p: usize) ->
     let end = to.min(starts.len());
     let mut met = false;
     'keys: for k in from..end {
-        let a = starts[k] as usize;
+        let a = usize::from(starts[k]);
         if byte_at(s, a) != first {
             continue 'keys;
         }

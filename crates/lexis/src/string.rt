@@ -3,7 +3,7 @@ ghost use Rattle.std.specs.Prelude.{◌≡◌, ◌+◌, ◌-◌, ◌≤◌, ◌<
 ghost use Rattle.std.proofs.Math.Seq.{paste};
 ghost use Rattle.lexis.specs.Bytes.{byte_at, is_hex, run_to, Ran};
 ghost use Rattle.lexis.specs.Utf8.{is_scalar};
-ghost use Rattle.lexis.specs.String.{made_of, answer_of, is, hex_of, scalar_of, scalar, escape, marker, unit, unit_in, plain_in, mode_of, text_at, packed, UnitAt, RunHere, unpacked, Wrote};
+ghost use Rattle.lexis.specs.String.{made_of, answer_of, is, hex_of, scalar_of, scalar, escape, marker, unit, unit_in, plain_in, quoted_of, from_of, to_of, mode_from, text_at, packed, UnitAt, RunHere, unpacked, Wrote};
 
 use crate::bytes::{NOTHING, byte_at, is_digit, within};
 use crate::heredoc::{Line, line_at, starts_line};
@@ -18,6 +18,34 @@ pub enum Why {
     Closing,
     Foreign,
     End,
+}
+
+// The text round a run: quoted, or a heredoc whose delimiter stands in the source from `from` to `to`.
+#[derive(Clone, Copy, Debug, PartialEq, Eq, Drop)]
+pub enum Round {
+    Quoted,
+    Heredoc { from: usize, to: usize },
+}
+
+impl Round {
+    // Where a heredoc's delimiter stands; nowhere in quoted text.
+    pub fn delimiter(self) -> (usize, usize)
+        ensures { result ≡ (from_of self, to_of self) }
+    {
+        match self {
+            Round::Quoted => (0, 0),
+            Round::Heredoc { from, to } => (from, to),
+        }
+    }
+
+    pub fn is_quoted(self) -> bool
+        ensures { result ≡ quoted_of self }
+    {
+        match self {
+            Round::Quoted => true,
+            Round::Heredoc { .. } => false,
+        }
+    }
 }
 
 // A unit: its width, and its unescaped bytes in one number, the first lowest, and how many they are.
@@ -56,7 +84,7 @@ fn made(width: usize, bytes: u32, count: u8) -> Unit
 fn one(width: usize, b: u8) -> Unit
     ensures { result ≡ made_of width (packed (b ∷ [])) 1 }
 {
-    made(width, b as u32, 1)
+    made(width, u32::from(b), 1)
 }
 
 // The value of a hexadecimal digit.
@@ -65,13 +93,13 @@ fn hex_value(b: u16) -> Option<u32>
     ensures low { IfSome result (λ d. d < 16) }
 {
     if is_digit(b) {
-        return Some(b as u32 - 48);
+        return Some(u32::from(b) - 48);
     }
     if within(b, 97, 102) {
-        return Some(b as u32 - 87);
+        return Some(u32::from(b) - 87);
     }
     if within(b, 65, 70) {
-        return Some(b as u32 - 55);
+        return Some(u32::from(b) - 55);
     }
     None
 }
@@ -167,13 +195,13 @@ fn marker_at(s: &[u8], p: usize, b: u8, why: Why) -> Result<Unit, Why>
     if c == BRACE {
         return Err(why);
     }
-    if c != b as u16 {
+    if c != u16::from(b) {
         return Ok(one(1, b));
     }
     if byte_at(s, p + 2) != BRACE {
         return Ok(one(1, b));
     }
-    Ok(made(3, b as u32 + 256 * BRACE as u32, 2))
+    Ok(made(3, u32::from(b) + 256 * u32::from(BRACE), 2))
 }
 
 // The unit at p, in quoted text or in a heredoc.
@@ -202,23 +230,25 @@ pub fn unit_at(s: &[u8], p: usize, quoted: bool) -> Result<Unit, Why>
     Ok(one(1, b))
 }
 
-// The unit at p, in quoted text, or in a heredoc whose delimiter stands in the source from d to e; fresh: a line starts at p.
-fn unit_in(s: &[u8], p: usize, quoted: bool, fresh: bool, d: usize, e: usize) -> Result<Unit, Why>
-    ensures { UnitAt s.now (unit_in (mode_of s.now quoted d e) fresh (drop p s.now)) p result }
+// The unit at p, in the text round it; fresh: a line starts at p.
+fn unit_in(s: &[u8], p: usize, round: Round, fresh: bool) -> Result<Unit, Why>
+    ensures { UnitAt s.now (unit_in (mode_from s.now round) fresh (drop p s.now)) p result }
 {
     if s.len() <= p {
         return Err(Why::End);
     }
-    if quoted {
-        return unit_at(s, p, true);
-    }
-    if !fresh {
-        return unit_at(s, p, false);
-    }
-    match line_at(s, d, e, p) {
-        Line::Text => unit_at(s, p, false),
-        Line::Closes(_) => Err(Why::Closing),
-        Line::Foreign(_) => Err(Why::Foreign),
+    match round {
+        Round::Quoted => unit_at(s, p, true),
+        Round::Heredoc { from, to } => {
+            if !fresh {
+                return unit_at(s, p, false);
+            }
+            match line_at(s, from, to, p) {
+                Line::Text => unit_at(s, p, false),
+                Line::Closes(_) => Err(Why::Closing),
+                Line::Foreign(_) => Err(Why::Foreign),
+            }
+        }
     }
 }
 
@@ -258,10 +288,11 @@ fn plain_end(s: &[u8], p: usize, quoted: bool) -> usize
     }
 }
 
-// The longest run of literal text from p, in quoted text, or in a heredoc whose delimiter stands in the source from d to e.
-pub fn run_at(s: &[u8], p: usize, quoted: bool, d: usize, e: usize) -> Run
-    ensures { RunHere (mode_of s.now quoted d e) s.now p result }
+// The longest run of literal text from p, in the text round it.
+pub fn run_at(s: &[u8], p: usize, round: Round) -> Run
+    ensures { RunHere (mode_from s.now round) s.now p result }
 {
+    let quoted = round.is_quoted();
     let mut i = p;
     let mut n = 0;
     let mut fresh = starts_line(s, p);
@@ -280,10 +311,10 @@ pub fn run_at(s: &[u8], p: usize, quoted: bool, d: usize, e: usize) -> Run
                 escaped: n < i - p,
             };
         }
-        match unit_in(s, i, quoted, fresh, d, e) {
+        match unit_in(s, i, round, fresh) {
             Ok(u) => {
                 i += u.width;
-                n += u.count as usize;
+                n += usize::from(u.count);
                 fresh = u.bytes == 10;
             }
             Err(why) => {
@@ -304,25 +335,17 @@ fn put(buf: &mut [u8], at: usize, bytes: u32, count: u8)
     ensures { buf.new ≡ paste buf.old at (unpacked count bytes) count }
 {
     let mut left = bytes;
-    for k in 0..count as usize {
+    for k in 0..usize::from(count) {
         buf[at + k] = (left % 256) as u8;
         left = left / 256;
     }
 }
 
 // The unescaped text of the run from p, written into a buffer at a place. Where it does not fit, nothing is written, and the answer is no.
-pub fn write(
-    s: &[u8],
-    p: usize,
-    quoted: bool,
-    d: usize,
-    e: usize,
-    buf: &mut [u8],
-    at: usize,
-) -> bool
-    ensures { Wrote buf.old buf.new at (text_at (mode_of s.now quoted d e) s.now p).bytes result }
+pub fn write(s: &[u8], p: usize, round: Round, buf: &mut [u8], at: usize) -> bool
+    ensures { Wrote buf.old buf.new at (text_at (mode_from s.now round) s.now p).bytes result }
 {
-    let r = run_at(s, p, quoted, d, e);
+    let r = run_at(s, p, round);
     let end = r.end;
     if buf.len() < at {
         return false;
@@ -333,10 +356,10 @@ pub fn write(
     let mut i = p;
     let mut j = 0;
     while i < end {
-        let u = unit_at(s, i, quoted).unwrap();
+        let u = unit_at(s, i, round.is_quoted()).unwrap();
         put(buf, at + j, u.bytes, u.count);
         i += u.width;
-        j += u.count as usize;
+        j += usize::from(u.count);
     }
     true
 }

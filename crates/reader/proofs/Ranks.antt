@@ -1,29 +1,29 @@
--- The ranks of children at the place where their node starts.
-use Prim.Native.Nat.{ℕ, ◌*◌, ◌-◌, ◌≤◌, ◌<◌}
+-- The measure of the calls of the cycle, and the ranks of children at the place where their node starts.
+use Prim.Native.Nat.{ℕ, ◌+◌, ◌*◌, ◌-◌, ◌≤◌, ◌<◌}
 use mathlib.Core.Path.{◌≡◌}
 use mathlib.Core.Bool.{Bool, true, false, cond}
 use native.Mathlib.Omega.{arith}
 use lib.Dec.{eqb, eqb→eq, T}
-use borrow.Author.Tests.{ne_eqb}
+use lib.ListN.{length}
+use mathlib.Core.List.{List}
 use Rattle.grammar.specs.Layouts.{inside, single, test, branch, right, called, portion, filter}
 use Rattle.grammar.specs.Code.{class_of}
 use Rattle.grammar.specs.Thrift.{leads}
+use Rattle.reader.specs.declared.at.At.{At}
+
+-- the measure of the cycle's calls: the levels left, then what is left of the source, then a rank for calls at one place
+abbrev pub ranked : ℕ → List ℕ → At → ℕ → ℕ
+ranked left s a rank = 8388608 * left + 128 * (length s - a.place) + rank
 
 -- by the number of the class: a name, a part, a condition, an expression
 abbrev pub sub_rank : ℕ → ℕ
 sub_rank c = cond (eqb c 9) 53 (cond (eqb c 10) 11 (cond (eqb c 12) 47 101))
-
-pub rank_name : (c : ℕ) → c ≡ 9 → sub_rank c ≡ 53
-rank_name c e = rw e
 
 pub rank_part : (c : ℕ) → c ≡ 10 → sub_rank c ≡ 11
 rank_part c e = rw e
 
 pub rank_condition : (c : ℕ) → c ≡ 12 → sub_rank c ≡ 47
 rank_condition c e = rw e
-
-pub rank_other : (c : ℕ) → ¬ (c ≡ 9) → ¬ (c ≡ 10) → ¬ (c ≡ 12) → sub_rank c ≡ 101
-rank_other c e f g = rw (ne_eqb c 9 e, ne_eqb c 10 f, ne_eqb c 12 g)
 
 pub rank_most : (c : ℕ) → sub_rank c ≤ 101
 rank_most c = go (eqb c 9) (eqb c 10) (eqb c 12)

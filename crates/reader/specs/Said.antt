@@ -1,7 +1,9 @@
 -- What an answer of the reader's functions says.
-use Rattle.std.specs.Prelude.{ℕ, ◌+◌, ◌*◌, ◌≤◌, ◌<◌, ◌≡◌, List, [], ◌∷◌, Bool, true, false, ◌||◌, ◌⊎◌, length, take, eqb, Result, Ok, Err}
+use Rattle.std.specs.Prelude.{ℕ, ◌+◌, ◌*◌, ◌-◌, ◌≤◌, ◌<◌, ◌≡◌, List, [], ◌∷◌, Bool, true, false, ◌||◌, ◌⊎◌, length, take, eqb, Result, Ok, Err}
 use Rattle.std.proofs.Math.Option.{some}
 use Rattle.reader.specs.declared.Reading.{Reading}
+use Rattle.reader.specs.declared.at.At.{At}
+use Rattle.reader.specs.declared.at.Level.{Level}
 use Rattle.engine.specs.Base.{Outcome, ok, halt, stuck, Rec, Tree, rec_of, size, sizes}
 use Rattle.engine.specs.Engine.{Body, Fits, FailIn, FailAt}
 use Rattle.engine.specs.Layout.{fin, move, kid, grammar, after}
@@ -12,10 +14,11 @@ use Rattle.lexis.specs.String.{mode_of}
 use Rattle.lexis.specs.Keys.{among}
 use Rattle.grammar.specs.declared.picks.Head.{Head}
 use Rattle.grammar.specs.declared.kinds.Refused.{Refused}
+use Rattle.grammar.specs.declared.kinds.Refusal.TheVariants as refusal
 use Rattle.grammar.specs.Kinds.{number}
 use Rattle.grammar.specs.Alone.{HeadAt}
 use Rattle.grammar.specs.Moves.{Under, an_expression, an_item, round}
-use Rattle.grammar.specs.Layouts.{Layout, layout_of, inside, opening, space, past}
+use Rattle.grammar.specs.Layouts.{Layout, layout_of, text_lay, inside, opening, space, past}
 use Rattle.grammar.specs.Hcl.{hcl, under, pick_at, bounds}
 use Rattle.grammar.specs.Code.{class_of}
 use Rattle.grammar.specs.Thrift.{spare, bonus}
@@ -165,6 +168,12 @@ pub record Closing (i n flag from to before : ℕ) : Type 0 where
   pub room : from + before + n + 1 ≤ to
   pub small : to ≤ 65535
 
+-- it is put after its children's, and what was read ends with it
+abbrev pub Closed : ℕ → ℕ → ℕ → ℕ → ℕ → ℕ → ℕ → ℕ → List ℕ → List ℕ → Reading → Type 0
+Closed i n k flag from to before text b b' r =
+    (r ≡ record { end = to; count = n + 1; text = text })
+    × (b' ≡ put_at b (i + n) (record_of k flag from to (before + n + 1) (0, 0)))
+
 -- ---- what the functions ask of one another
 
 -- a kind of the program, for a node from `start` whose production goes on at p
@@ -218,3 +227,37 @@ pub record Texting (s : List ℕ) (start p k flag : ℕ) (plain : Bool) (d e : �
   pub owes : spare k ≡ 0
   pub low : start < p
   pub small : flag ≤ 255
+
+-- ---- the same at the code's places and levels, and of its answers
+
+abbrev pub at_level : Level → Under
+at_level v = under v.left v.lines an_expression
+
+-- the level under v, where a line may end as said; or v has none left, which is refused at p
+abbrev pub Deeper : Level → ℕ → Bool → Result Level Refused → Type 0
+Deeper v p lines (Ok w) = (v.left ≡ 0 → ⊥) × (w ≡ record { left = v.left - 1; lines = lines })
+Deeper v p lines (Err e) = (v.left ≡ 0) × (e ≡ record { kind = refusal.Deep; at = p })
+
+abbrev pub AskedAt : List ℕ → List ℕ → At → Type 0
+AskedAt s y a = Asked s y a.records a.text a.keys a.place
+
+-- what a function of the cycle says of records, text and keys before and after, and of its answer
+abbrev pub Telling : Type 1
+Telling = List ℕ → List ℕ → List ℕ → List ℕ → List ℕ → List ℕ → Result Reading Refused → Type 0
+
+abbrev pub SaidAt : (List ℕ → Under → ℕ → Outcome ℕ (Tree ℕ) → Type 0) → List ℕ → At → Level → Telling
+SaidAt Z s a v b b' x x' y y' r = Said (Z s (at_level v) a.place) s a.records a.text a.keys a.place b b' x x' y y' (answered r)
+
+abbrev pub SaidSubAt : ℕ → List ℕ → At → Level → Telling
+SaidSubAt c s a v b b' x x' y y' r = SaidSub c v.left v.lines s a.records a.text a.keys a.place b b' x x' y y' (answered r)
+
+abbrev pub SaidItemAt : List ℕ → At → ℕ → ℕ → Telling
+SaidItemAt s a left first b b' x x' y y' r = SaidItem s left a.records a.text a.keys first a.place b b' x x' y y' (answered r)
+
+-- the production of the kind k for a node from σ, which goes on at a
+abbrev pub SaidLaid : List ℕ → At → Level → ℕ → ℕ → ℕ → Telling
+SaidLaid s a v σ before k b b' x x' y y' r = SaidMade Any s (under_any k v.left v.lines) σ any_before k (layout_of k) a.place a.records a.text before a.place a.keys b b' x x' y y' (answered r)
+
+-- the text of the node of the kind k from σ, which goes on at a
+abbrev pub SaidText : List ℕ → At → Level → ℕ → ℕ → ℕ → Telling
+SaidText s a v σ k flag b b' x x' y y' r = SaidMade One s (λ _. at_level v) σ (λ _. []) k (text_lay flag) a.place a.records a.text 0 σ a.keys b b' x x' y y' (answered r)

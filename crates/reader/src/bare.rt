@@ -6,35 +6,36 @@ ghost use Rattle.reader.specs.Said.{answered};
 ghost use Rattle.reader.specs.Bare.{Naming, SaidBare, Beyond, tilde_at};
 
 use crate::Reading;
-use crate::put::close;
+use crate::at::At;
+use crate::put::close_at;
 use grammar::kinds::{Kind, Refused};
 use grammar::moves::{space, unexpected};
 use lexis::bytes::one_at;
 use lexis::word::ident_end;
 
-// A name at p, of a call or a for.
-pub fn called(s: &[u8], nodes: &mut [u16], i: usize, p: usize) -> Result<Reading, Refused>
-    requires { Naming s.now i p }
-    ensures { SaidBare 17 s.now i p nodes.old nodes.new (answered result) }
+// A name, of a call or a for.
+pub fn called(s: &[u8], nodes: &mut [u16], at: At) -> Result<Reading, Refused>
+    requires { Naming s.now at.records at.place }
+    ensures { SaidBare 17 s.now at.records at.place nodes.old nodes.new (answered result) }
 {
-    let e = ident_end(s, p);
-    if e == p {
-        return Err(unexpected(s, p));
+    let e = ident_end(s, at.place);
+    if e == at.place {
+        return Err(unexpected(s, at.place));
     }
-    Ok(close(nodes, i, 0, Kind::NAME, 0, p, e, 0, 0))
+    Ok(close_at(nodes, at, 0, Kind::NAME, 0, e, 0))
 }
 
-// An attribute whose dot is at p.
-pub fn attribute(s: &[u8], nodes: &mut [u16], i: usize, p: usize) -> Result<Reading, Refused>
-    requires { Naming s.now i p × (byte_at s.now p ≡ 46) }
-    ensures { SaidBare 38 s.now i p nodes.old nodes.new (answered result) }
+// An attribute, from its dot on.
+pub fn attribute(s: &[u8], nodes: &mut [u16], at: At) -> Result<Reading, Refused>
+    requires { Naming s.now at.records at.place × (byte_at s.now at.place ≡ 46) }
+    ensures { SaidBare 38 s.now at.records at.place nodes.old nodes.new (answered result) }
 {
-    let g = space(s, p + 1, true)?;
+    let g = space(s, at.place + 1, true)?;
     let e = ident_end(s, g);
     if e == g {
         return Err(unexpected(s, g));
     }
-    Ok(close(nodes, i, 0, Kind::ATTRIBUTE, 0, p, e, 0, 0))
+    Ok(close_at(nodes, at, 0, Kind::ATTRIBUTE, 0, e, 0))
 }
 
 // Behind an item of an array that ends at e: to the next one past a comma, or to the `]`.

@@ -10,6 +10,8 @@ ghost use Rattle.grammar.specs.Table.{record_of};
 ghost use Rattle.reader.specs.Buffer.{put_at};
 ghost use Rattle.reader.specs.Items.{sign_from, met_in, Behind, SignedAt, Keeping, Keeps, Baring, bared};
 
+use crate::Reading;
+use crate::at::At;
 use crate::put::put;
 use grammar::kinds::{Kind, Refusal, Refused};
 use grammar::moves::{space, unexpected};
@@ -43,89 +45,79 @@ pub struct Sign {
     pub flag: usize,
 }
 
-// Whether the key at p, whose mark is m, is the token that stands before g alone, and was met before.
-fn is_met(s: &[u8], keys: &[u16], first: usize, k: usize, p: usize, m: u16, g: usize) -> bool
-    requires { Indexed s.now keys.now first k × (m ≡ mark_at s.now p) }
-    ensures { result ≡ (eqb (behind_key s.now p) g && met_in s.now keys.now first k p) }
+// Whether the key at a place, whose mark is m, is the token that stands before g alone, and was met before.
+fn is_met(s: &[u8], keys: &[u16], at: At, first: usize, m: u16, g: usize) -> bool
+    requires { Indexed s.now keys.now first at.keys × (m ≡ mark_at s.now at.place) }
+    ensures { result ≡ (eqb (behind_key s.now at.place) g && met_in s.now keys.now first at.keys at.place) }
 {
     // few keys are met, so this is asked first
-    if !find(s, keys, first, k, p, m) {
+    if !find(s, keys, first, at.keys, at.place, m) {
         return false;
     }
-    let e = key_end(s, p);
+    let e = key_end(s, at.place);
     space_end(s, e) == g
 }
 
-// The sign after the key from p to e, whose mark is m and whose object has the earlier keys in the slots from the first-th to before the k-th.
+// The sign after the key that ends at e, whose mark is m; the earlier keys of its object stand in the slots from the first-th on.
 pub fn sign_at(
     s: &[u8],
     keys: &[u16],
+    at: At,
     first: usize,
-    k: usize,
-    p: usize,
     m: u16,
     e: usize,
 ) -> Result<Sign, Refused>
-    requires { Indexed s.now keys.now first k × (m ≡ mark_at s.now p) }
-    ensures { SignedAt s.now keys.now first k p e (sign_from result) }
+    requires { Indexed s.now keys.now first at.keys × (m ≡ mark_at s.now at.place) }
+    ensures { SignedAt s.now keys.now first at.keys at.place e (sign_from result) }
 {
-    let at = space(s, e, false)?;
-    if is_met(s, keys, first, k, p, m, at) {
-        return Err(Refusal::Duplicate.at(p));
+    let g = space(s, e, false)?;
+    if is_met(s, keys, at, first, m, g) {
+        return Err(Refusal::Duplicate.at(at.place));
     }
-    let q = equals_end(s, at);
-    if q != at {
+    let q = equals_end(s, g);
+    if q != g {
         return Ok(Sign { at: q, flag: 0 });
     }
-    if one_at(s, at, 58) {
-        return Ok(Sign {
-            at: at + 1,
-            flag: 1,
-        });
+    if one_at(s, g, 58) {
+        return Ok(Sign { at: g + 1, flag: 1 });
     }
-    Err(unexpected(s, at))
+    Err(unexpected(s, g))
 }
 
-// The item that starts at q is the next of its object: its key, whose mark is m, goes into the slot `top` where it may be compared, which is known where `alone`. The slot of the next.
-pub fn keep(
-    s: &[u8],
-    keys: &mut [u16],
-    first: usize,
-    top: usize,
-    q: usize,
-    m: u16,
-    alone: bool,
-) -> usize
-    requires { Keeping s.now keys.old first top q m alone }
-    ensures { Keeps s.now keys.old keys.new first top q result }
+// The item at a place is the next of its object, whose earlier keys stand in the slots from the first-th on: its key, whose mark is m, goes into the next slot where it may be
+// compared, which is known where `alone`. The slot of the next.
+pub fn keep(s: &[u8], keys: &mut [u16], at: At, first: usize, m: u16, alone: bool) -> usize
+    requires { Keeping s.now keys.old first at.keys at.place m alone }
+    ensures { Keeps s.now keys.old keys.new first at.keys at.place result }
 {
     if alone {
-        insert(s, keys, first, top, q, m);
-        return top + 1;
+        insert(s, keys, first, at.keys, at.place, m);
+        return at.keys + 1;
     }
-    if !lone(s, q) {
-        return top;
+    if !lone(s, at.place) {
+        return at.keys;
     }
-    insert(s, keys, first, top, q, m);
-    top + 1
+    insert(s, keys, first, at.keys, at.place, m);
+    at.keys + 1
 }
 
-// The key from p to e, whose n records begin at the i-th: where it is a lone variable, its record is put anew.
-pub fn bare(s: &[u8], nodes: &mut [u16], i: usize, n: usize, p: usize, e: usize)
-    requires { Baring p e }
-    ensures { nodes.new ≡ bared s.now nodes.old i n p e }
+// What was read of a key: where it is a lone variable, its record is put anew.
+pub fn bare(s: &[u8], nodes: &mut [u16], at: At, key: Reading)
+    requires { Baring at.place key.end }
+    ensures { nodes.new ≡ bared s.now nodes.old at.records key.count at.place key.end }
 {
-    if n != 1 {
+    if key.count != 1 {
         return;
     }
-    let b = byte_at(s, p);
+    let b = byte_at(s, at.place);
     if !is_start(b) {
         return;
     }
-    if constant_at(s, p).is_some() {
+    if constant_at(s, at.place).is_some() {
         return;
     }
-    put(nodes, i, Kind::KEY, 0, p as u16, e as u16, 1, 0, 0);
+    let (from, to) = (at.place as u16, key.end as u16);
+    put(nodes, at.records, Kind::KEY, 0, from, to, 1, 0, 0);
 }
 
 // The mark of the key at p, which is perhaps a word.
@@ -139,14 +131,15 @@ pub fn marked(s: &[u8], p: usize, word: Option<Key>) -> u16
     }
 }
 
-// The record of a key that is a word from p to e, of a kind as a term: a constant keeps its kind.
-pub fn name(nodes: &mut [u16], i: usize, kind: u16, p: usize, e: usize)
-    requires { Baring p e }
-    ensures { nodes.new ≡ put_at nodes.old i (record_of (bare kind) 0 p e 1 (0, 0)) }
+// The record of a key that is a word: a constant keeps its kind as a term.
+pub fn name(nodes: &mut [u16], at: At, word: Key)
+    requires { Baring at.place word.end }
+    ensures { nodes.new ≡ put_at nodes.old at.records (record_of (bare word.kind) 0 at.place word.end 1 (0, 0)) }
 {
-    if kind == Kind::VARIABLE {
-        put(nodes, i, Kind::KEY, 0, p as u16, e as u16, 1, 0, 0);
+    let (from, to) = (at.place as u16, word.end as u16);
+    if word.kind == Kind::VARIABLE {
+        put(nodes, at.records, Kind::KEY, 0, from, to, 1, 0, 0);
         return;
     }
-    put(nodes, i, kind, 0, p as u16, e as u16, 1, 0, 0);
+    put(nodes, at.records, word.kind, 0, from, to, 1, 0, 0);
 }

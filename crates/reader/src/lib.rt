@@ -9,6 +9,7 @@ use crate::whole::whole;
 use grammar::kinds::{Limit, Refusal};
 use lexis::utf8::first_bad;
 
+mod at;
 mod bare;
 mod items;
 pub mod node;

@@ -1,10 +1,11 @@
 // Records in the lent buffer, and what was read.
-ghost use Rattle.std.specs.Prelude.{◌≡◌, ◌+◌};
+ghost use Rattle.std.specs.Prelude.{◌≡◌};
 ghost use Rattle.grammar.specs.Table.{record_of};
 ghost use Rattle.reader.specs.Buffer.{put_at};
-ghost use Rattle.reader.specs.Said.{Closing};
+ghost use Rattle.reader.specs.Said.{Closing, Closed};
 
 use crate::Reading;
+use crate::at::At;
 
 // The i-th record, where the buffer has one.
 pub fn put(
@@ -51,7 +52,7 @@ pub fn close(
     text: usize,
 ) -> Reading
     requires { Closing i n flag from to before }
-    ensures { (result ≡ record { end = to; count = n + 1; text = text }) × (nodes.new ≡ put_at nodes.old (i + n) (record_of kind flag from to (before + n + 1) (0, 0))) }
+    ensures { Closed i n kind flag from to before text nodes.old nodes.new result }
 {
     put(
         nodes,
@@ -65,4 +66,20 @@ pub fn close(
         0,
     );
     accept(to, n + 1, text)
+}
+
+// The same of a node that starts at a place, without a left operand.
+pub fn close_at(
+    nodes: &mut [u16],
+    at: At,
+    n: usize,
+    kind: u16,
+    flag: usize,
+    to: usize,
+    text: usize,
+) -> Reading
+    requires { Closing at.records n flag at.place to 0 }
+    ensures { Closed at.records n kind flag at.place to 0 text nodes.old nodes.new result }
+{
+    close(nodes, at.records, n, kind, flag, at.place, to, 0, text)
 }

@@ -1,7 +1,7 @@
 // Strings, and the pieces and ends of templates and heredocs.
 ghost use Rattle.std.specs.Prelude.{◌≡◌, ◌+◌, ◌≤◌};
 ghost use Rattle.lexis.specs.Heredoc.{line_at, part};
-ghost use Rattle.lexis.specs.String.{quoted, RunHere};
+ghost use Rattle.lexis.specs.String.{quoted, quoted_of, from_of, to_of, RunHere};
 ghost use Rattle.grammar.specs.Moves.{closes_as};
 ghost use Rattle.grammar.specs.Table.{record_of};
 ghost use Rattle.reader.specs.Buffer.{put_at};
@@ -9,17 +9,19 @@ ghost use Rattle.reader.specs.Said.{answered, LeadAt};
 ghost use Rattle.reader.specs.Text.{ended, step_from, Ends, Piecing, Pieced, Quoting, SaidString};
 
 use crate::Reading;
+use crate::at::At;
 use crate::put::{accept, put};
 use grammar::kinds::{Kind, Refusal, Refused};
 use grammar::picks::{Head, head_at};
 use lexis::bytes::byte_at;
 use lexis::heredoc::{Line, line_at};
-use lexis::string::{Run, Why, write};
+use lexis::string::{Round, Run, Why, write};
 
-// How the line at q closes a heredoc whose delimiter stands in the source from d to e.
-fn closing(s: &[u8], q: usize, d: usize, e: usize) -> Result<usize, Refused>
-    ensures { ended result ≡ step_from (closes_as (line_at (part s.now d e) s.now q) q) }
+// How the line at q closes the text of a heredoc.
+fn closing(s: &[u8], q: usize, round: Round) -> Result<usize, Refused>
+    ensures { ended result ≡ step_from (closes_as (line_at (part s.now (from_of round) (to_of round)) s.now q) q) }
 {
+    let (d, e) = round.delimiter();
     match line_at(s, d, e, q) {
         Line::Text => Err(Refusal::Unexpected.at(q)),
         Line::Closes(at) => Ok(at),
@@ -27,49 +29,33 @@ fn closing(s: &[u8], q: usize, d: usize, e: usize) -> Result<usize, Refused>
     }
 }
 
-// Where the text that starts at `start` ends at q, by why no unit of text stands there; a heredoc's delimiter stands in the source from d to e.
-pub fn ends(
-    s: &[u8],
-    start: usize,
-    q: usize,
-    d: usize,
-    e: usize,
-    why: Why,
-) -> Result<usize, Refused>
+// Where the text that starts at `start` ends at q, by why no unit of text stands there.
+pub fn ends(s: &[u8], start: usize, q: usize, round: Round, why: Why) -> Result<usize, Refused>
     requires { q ≤ 65535 }
-    ensures { Ends s.now start q d e why (ended result) }
+    ensures { Ends s.now start q (from_of round) (to_of round) why (ended result) }
 {
     match why {
         Why::Quote => Ok(q + 1),
         Why::Interpolation => Err(Refusal::Unexpected.at(q)),
         Why::Directive => Err(Refusal::Directive.at(q)),
         Why::Escape => Err(Refusal::Escape.at(q)),
-        Why::Closing => closing(s, q, d, e),
-        Why::Foreign => closing(s, q, d, e),
+        Why::Closing => closing(s, q, round),
+        Why::Foreign => closing(s, q, round),
         Why::End => Err(Refusal::Unclosed.at(start)),
     }
 }
 
-// The record of a node without children, from `from` to `to`, whose text is `length` bytes from `text` on.
-fn leaf(
-    nodes: &mut [u16],
-    i: usize,
-    kind: u16,
-    flag: u16,
-    from: usize,
-    to: usize,
-    text: usize,
-    length: usize,
-)
-    requires { Piecing text from to length }
-    ensures { nodes.new ≡ put_at nodes.old i (record_of kind flag from to 1 (text, length)) }
+// The record of a node without children, from a place to `to`, whose text is `length` bytes from `text` on.
+fn leaf(nodes: &mut [u16], at: At, kind: u16, flag: u16, to: usize, text: usize, length: usize)
+    requires { Piecing text at.place to length }
+    ensures { nodes.new ≡ put_at nodes.old at.records (record_of kind flag at.place to 1 (text, length)) }
 {
     put(
         nodes,
-        i,
+        at.records,
         kind,
         flag,
-        from as u16,
+        at.place as u16,
         to as u16,
         1,
         text as u16,
@@ -77,30 +63,18 @@ fn leaf(
     );
 }
 
-// The piece from `from` to `to`: its record and, where it is escaped, its text of so many bytes. The answer is how many bytes of text it used.
-pub fn piece(
-    s: &[u8],
-    nodes: &mut [u16],
-    text: &mut [u8],
-    i: usize,
-    u: usize,
-    from: usize,
-    to: usize,
-    escaped: bool,
-    length: usize,
-    plain: bool,
-    d: usize,
-    e: usize,
-) -> usize
-    requires { Piecing u from to length }
-    ensures { Pieced s.now i u from to escaped length plain d e nodes.old nodes.new text.old text.new result }
+// The piece of a run: its record and, where it is escaped, its text. The answer is how many bytes of text it used.
+pub fn piece(s: &[u8], nodes: &mut [u16], text: &mut [u8], at: At, r: Run, round: Round) -> usize
+    requires { Piecing at.text at.place r.end r.length }
+    ensures { Pieced s.now at.records at.text at.place r.end r.escaped r.length (quoted_of round) (from_of round) (to_of round) nodes.old nodes.new text.old text.new result }
 {
-    if escaped {
-        write(s, from, plain, d, e, text, u);
-        leaf(nodes, i, Kind::PIECE, 1, from, to, u, length);
-        return length;
+    let from = at.place;
+    if r.escaped {
+        write(s, from, round, text, at.text);
+        leaf(nodes, at, Kind::PIECE, 1, r.end, at.text, r.length);
+        return r.length;
     }
-    leaf(nodes, i, Kind::PIECE, 0, from, to, from, to - from);
+    leaf(nodes, at, Kind::PIECE, 0, r.end, from, r.end - from);
     0
 }
 
@@ -117,27 +91,25 @@ pub fn lead_at(s: &[u8], p: usize, lines: bool) -> Head
     head_at(s, p, lines)
 }
 
-// A string at p with its run: its record and, where it is escaped, its text.
+// A string with its run: its record and, where it is escaped, its text.
 pub fn string(
     s: &[u8],
     nodes: &mut [u16],
     text: &mut [u8],
-    i: usize,
-    u: usize,
-    p: usize,
+    at: At,
     r: Run,
 ) -> Result<Reading, Refused>
-    requires { Quoting s.now i u p × RunHere quoted s.now (p + 1) r }
-    ensures { SaidString s.now i u p nodes.old nodes.new text.old text.new (answered result) }
+    requires { Quoting s.now at.records at.text at.place × RunHere quoted s.now (at.place + 1) r }
+    ensures { SaidString s.now at.records at.text at.place nodes.old nodes.new text.old text.new (answered result) }
 {
-    let from = p + 1;
+    let from = at.place + 1;
     let why = r.why;
-    let c = ends(s, p, r.end, 0, 0, why)?;
+    let c = ends(s, at.place, r.end, Round::Quoted, why)?;
     if r.escaped {
-        write(s, from, true, 0, 0, text, u);
-        leaf(nodes, i, Kind::STRING, 1, p, c, u, r.length);
+        write(s, from, Round::Quoted, text, at.text);
+        leaf(nodes, at, Kind::STRING, 1, c, at.text, r.length);
         return Ok(accept(c, 1, r.length));
     }
-    leaf(nodes, i, Kind::STRING, 0, p, c, from, r.end - from);
+    leaf(nodes, at, Kind::STRING, 0, c, from, r.end - from);
     Ok(accept(c, 1, 0))
 }

@@ -1,30 +1,30 @@
 // The functions that call one another: expression, term, quoted template and interpolation, with whatever else holds expressions.
-ghost use Rattle.std.specs.Prelude.{◌≡◌, ◌||◌, [], ◌≤◌, eqb, T};
+ghost use Rattle.std.specs.Prelude.{◌≡◌, ◌||◌, ◌≤◌, eqb, T};
 ghost use Rattle.std.proofs.Math.Option.{some};
 ghost use Rattle.engine.specs.Base.{has};
 ghost use Rattle.index.specs.Mark.{mark_at};
 ghost use Rattle.index.specs.Index.{Indexed};
 ghost use Rattle.grammar.specs.Said.{classes};
 ghost use Rattle.lexis.specs.Bytes.{byte_at};
-ghost use Rattle.grammar.specs.Alone.{head_of, NextAt, Word, KeyAt};
-ghost use Rattle.grammar.specs.Moves.{an_expression};
-ghost use Rattle.grammar.specs.Layouts.{layout_of, text_lay};
-ghost use Rattle.grammar.specs.Hcl.{under, pick_at};
-ghost use Rattle.reader.specs.Said.{answered, Asked, Said, Climbs, Firsts, Terms, Heads, Primary, LeadAt, Bracketed, Laying, SaidMade, SaidSub, SaidItem, Any, under_any, any_before, One, Texting};
+ghost use Rattle.lexis.specs.String.{quoted_of, from_of, to_of};
+ghost use Rattle.grammar.specs.Alone.{NextAt, Word, KeyAt};
+ghost use Rattle.grammar.specs.Hcl.{pick_at};
+ghost use Rattle.reader.specs.Said.{at_level, AskedAt, SaidAt, SaidLaid, SaidText, SaidSubAt, SaidItemAt, Climbs, Firsts, Terms, Heads, Primary, LeadAt, Bracketed, Laying, Texting};
 
 use crate::Reading;
+use crate::at::{At, Level};
 use crate::bare::{attribute, beyond, called, tilde};
 use crate::items::{bare, behind, keep, marked, name, sign_at};
-use crate::put::{accept, close};
+use crate::put::{accept, close, close_at};
 use crate::text::{ends, lead_at, piece, string};
 use grammar::kinds::{Kind, Refusal, Refused, tight};
 use grammar::moves::{is_part, space, unexpected, walk};
-use grammar::picks::{Key, follow, key_at, next_at, part_at, term_at};
+use grammar::picks::{Head, Key, follow, key_at, next_at, part_at, term_at};
 use grammar::program::{Instr, begin, child, instr};
 use index::find;
 use lexis::bytes::{one_at, two_at};
 use lexis::heredoc::opener_at;
-use lexis::string::{Why, run_at};
+use lexis::string::{Round, Why, run_at};
 
 // The classes that are no expressions, as the program numbers them.
 const CALLED: u8 = 9;
@@ -33,175 +33,137 @@ const PORTION: u8 = 10;
 
 const FILTER: u8 = 12;
 
-// An expression at p: a term, and the operators of a level above j that follow, with what stands to their right.
+// An expression: a term, and the operators of a level above j that follow, with what stands to their right.
 #[cycle(tree)]
 pub fn expr(
     s: &[u8],
     nodes: &mut [u16],
     text: &mut [u8],
     keys: &mut [u16],
-    i: usize,
-    u: usize,
-    k: usize,
-    p: usize,
-    left: usize,
-    lines: bool,
+    at: At,
+    level: Level,
     j: usize,
 ) -> Result<Reading, Refused>
-    requires { Asked s.now keys.old i u k p × (j ≤ 7) }
-    ensures { Said (Climbs s.now (under left lines an_expression) j p) s.now i u k p nodes.old nodes.new text.old text.new keys.old keys.new (answered result) }
+    requires { AskedAt s.now keys.old at × (j ≤ 7) }
+    ensures { SaidAt (λ s b p. Climbs s b j p) s.now at level nodes.old nodes.new text.old text.new keys.old keys.new result }
 {
-    let x = lead_at(s, p, lines);
-    let l = first(s, nodes, text, keys, i, u, k, p, left, lines, x.kind, x.end)?;
+    let head = lead_at(s, at.place, level.lines);
+    let l = first(s, nodes, text, keys, at, level, head)?;
     let mut e = l.end;
     let mut n = l.count;
     let mut t = l.text;
     loop {
-        let f = next_at(s, e, lines);
+        let f = next_at(s, e, level.lines);
         if tight(f.kind) as usize <= j {
             return Ok(accept(e, n, t));
         }
-        let m = grow(
-            s,
-            nodes,
-            text,
-            keys,
-            i + n,
-            u + t,
-            k,
-            p,
-            e,
-            left,
-            lines,
-            f.kind,
-            f.end,
-            n,
-        )?;
+        let on = At {
+            records: at.records + n,
+            text: at.text + t,
+            place: e,
+            ..at
+        };
+        let m = grow(s, nodes, text, keys, on, level, at.place, f, n)?;
         e = m.end;
         n = n + m.count;
         t = t + m.text;
     }
 }
 
-// What stands first at p, of a kind, with the term of a unary operator; a word or a number ends at `end`, which is p for all else.
+// What stands first, with the term of a unary operator. Its head ends at the place itself for all but a word or a number.
 #[cycle(tree)]
 pub fn first(
     s: &[u8],
     nodes: &mut [u16],
     text: &mut [u8],
     keys: &mut [u16],
-    i: usize,
-    u: usize,
-    k: usize,
-    p: usize,
-    left: usize,
-    lines: bool,
-    kind: u16,
-    end: usize,
+    at: At,
+    level: Level,
+    head: Head,
 ) -> Result<Reading, Refused>
-    requires { Asked s.now keys.old i u k p × LeadAt s.now p lines (head_of kind end) }
-    ensures { Said (Firsts s.now (under left lines an_expression) p) s.now i u k p nodes.old nodes.new text.old text.new keys.old keys.new (answered result) }
+    requires { AskedAt s.now keys.old at × LeadAt s.now at.place level.lines head }
+    ensures { SaidAt Firsts s.now at level nodes.old nodes.new text.old text.new keys.old keys.new result }
 {
-    if end != p {
-        return Ok(close(nodes, i, 0, kind, 0, p, end, 0, 0));
+    if head.end != at.place {
+        return Ok(close_at(nodes, at, 0, head.kind, 0, head.end, 0));
     }
-    if kind == Kind::NONE {
-        return Err(unexpected(s, p));
+    if head.kind == Kind::NONE {
+        return Err(unexpected(s, at.place));
     }
-    if is_unary(kind) {
-        return term(s, nodes, text, keys, i, u, k, p, left, lines);
+    if is_unary(head.kind) {
+        return term(s, nodes, text, keys, at, level);
     }
-    prim(s, nodes, text, keys, i, u, k, p, left, lines, kind)
+    prim(s, nodes, text, keys, at, level, head.kind)
 }
 
-// What follows an operand from `start` to p, of a kind; a binary operator ends at `end`, which is p for all else. `before` records of the operand stand before the i-th.
+// What follows an operand from `start`. Its head ends at the place itself for all but a binary operator. `before` records of the operand stand before its own.
 #[cycle(tree)]
 pub fn grow(
     s: &[u8],
     nodes: &mut [u16],
     text: &mut [u8],
     keys: &mut [u16],
-    i: usize,
-    u: usize,
-    k: usize,
+    at: At,
+    level: Level,
     start: usize,
-    p: usize,
-    left: usize,
-    lines: bool,
-    kind: u16,
-    end: usize,
+    head: Head,
     before: usize,
 ) -> Result<Reading, Refused>
-    requires { Asked s.now keys.old i u k p × Laying start p before kind × NextAt s.now p lines (head_of kind end) }
-    ensures { SaidMade Any s.now (under_any kind left lines) start any_before kind (layout_of kind) p i u before p k nodes.old nodes.new text.old text.new keys.old keys.new (answered result) }
+    requires { AskedAt s.now keys.old at × Laying start at.place before head.kind × NextAt s.now at.place level.lines head }
+    ensures { SaidLaid s.now at level start before head.kind nodes.old nodes.new text.old text.new keys.old keys.new result }
 {
-    if end == p {
-        if kind == Kind::TRAVERSAL {
-            return parts(s, nodes, text, keys, i, u, k, start, p, left, lines, before);
+    if head.end == at.place {
+        if head.kind == Kind::TRAVERSAL {
+            return parts(s, nodes, text, keys, at, level, start, before);
         }
-        return laid(
-            s, nodes, text, keys, i, u, k, start, p, left, lines, kind, before,
-        );
+        return laid(s, nodes, text, keys, at, level, start, head.kind, before);
     }
-    let g = space(s, end, lines)?;
-    let h = tight(kind) as usize;
-    let m = expr(s, nodes, text, keys, i, u, k, g, left, lines, h)?;
-    Ok(close(nodes, i, m.count, kind, 0, start, m.end, before, m.text))
+    let g = space(s, head.end, level.lines)?;
+    let h = tight(head.kind) as usize;
+    let m = expr(s, nodes, text, keys, At { place: g, ..at }, level, h)?;
+    Ok(close(
+        nodes, at.records, m.count, head.kind, 0, start, m.end, before, m.text,
+    ))
 }
 
-// A term at p, its traversals included; for a unary operator it calls itself.
+// A term, its traversals included; for a unary operator it calls itself.
 #[cycle(tree)]
 pub fn term(
     s: &[u8],
     nodes: &mut [u16],
     text: &mut [u8],
     keys: &mut [u16],
-    i: usize,
-    u: usize,
-    k: usize,
-    p: usize,
-    left: usize,
-    lines: bool,
+    at: At,
+    level: Level,
 ) -> Result<Reading, Refused>
-    requires { Asked s.now keys.old i u k p }
-    ensures { Said (Terms s.now (under left lines an_expression) p) s.now i u k p nodes.old nodes.new text.old text.new keys.old keys.new (answered result) }
+    requires { AskedAt s.now keys.old at }
+    ensures { SaidAt Terms s.now at level nodes.old nodes.new text.old text.new keys.old keys.new result }
 {
-    let kind = term_at(s, p, lines);
-    if kind == Kind::NONE {
-        return Err(unexpected(s, p));
-    }
+    let Some(kind) = term_at(s, at.place, level.lines) else {
+        return Err(unexpected(s, at.place));
+    };
     if is_unary(kind) {
-        if left == 0 {
-            return Err(Refusal::Deep.at(p));
-        }
-        let g = space(s, p + 1, false)?;
-        let m = term(s, nodes, text, keys, i, u, k, g, left - 1, lines)?;
-        return Ok(close(nodes, i, m.count, kind, 0, p, m.end, 0, m.text));
+        let under = level.deeper(at.place, level.lines)?;
+        let g = space(s, at.place + 1, false)?;
+        let m = term(s, nodes, text, keys, At { place: g, ..at }, under)?;
+        return Ok(close_at(nodes, at, m.count, kind, 0, m.end, m.text));
     }
-    let l = prim(s, nodes, text, keys, i, u, k, p, left, lines, kind)?;
+    let l = prim(s, nodes, text, keys, at, level, kind)?;
     let mut e = l.end;
     let mut n = l.count;
     let mut t = l.text;
     loop {
-        let f = follow(s, e, lines);
+        let f = follow(s, e, level.lines).unwrap_or(Kind::NONE);
         if f != Kind::TRAVERSAL {
             return Ok(accept(e, n, t));
         }
-        let m = laid(
-            s,
-            nodes,
-            text,
-            keys,
-            i + n,
-            u + t,
-            k,
-            p,
-            e,
-            left,
-            lines,
-            f,
-            n,
-        )?;
+        let on = At {
+            records: at.records + n,
+            text: at.text + t,
+            place: e,
+            ..at
+        };
+        let m = laid(s, nodes, text, keys, on, level, at.place, f, n)?;
         e = m.end;
         n = n + m.count;
         t = t + m.text;
@@ -229,68 +191,60 @@ pub fn prim(
     nodes: &mut [u16],
     text: &mut [u8],
     keys: &mut [u16],
-    i: usize,
-    u: usize,
-    k: usize,
-    p: usize,
-    left: usize,
-    lines: bool,
+    at: At,
+    level: Level,
     kind: u16,
 ) -> Result<Reading, Refused>
-    requires { Asked s.now keys.old i u k p × Primary s.now left lines p kind }
-    ensures { Said (Heads s.now (under left lines an_expression) p) s.now i u k p nodes.old nodes.new text.old text.new keys.old keys.new (answered result) }
+    requires { AskedAt s.now keys.old at × Primary s.now level.left level.lines at.place kind }
+    ensures { SaidAt Heads s.now at level nodes.old nodes.new text.old text.new keys.old keys.new result }
 {
     if is_quoted(kind) {
-        return quoted(s, nodes, text, keys, i, u, k, p, left, lines);
+        return quoted(s, nodes, text, keys, at, level);
     }
     if kind == Kind::HEREDOC {
-        return heredoc(s, nodes, text, keys, i, u, k, p, left, lines);
+        return heredoc(s, nodes, text, keys, at, level);
     }
     if kind == Kind::OBJECT {
-        return object(s, nodes, text, keys, i, u, k, p, left, lines);
+        return object(s, nodes, text, keys, at, level);
     }
     if kind == Kind::ARRAY {
-        return array(s, nodes, text, keys, i, u, k, p, left, lines);
+        return array(s, nodes, text, keys, at, level);
     }
     if kind == Kind::PARENTHESES {
-        return within(s, nodes, text, keys, i, u, k, p, left, lines, kind, 41);
+        return within(s, nodes, text, keys, at, level, kind, 41);
     }
-    laid(s, nodes, text, keys, i, u, k, p, p, left, lines, kind, 0)
+    laid(s, nodes, text, keys, at, level, at.place, kind, 0)
 }
 
-// The production of a kind of the program, for a node from `start`, read on from p; `before` records of its left operand stand before the i-th.
+// The production of a kind of the program, for a node from `start`, read on from the place; `before` records of its left operand stand before its own.
 #[cycle(tree)]
 pub fn laid(
     s: &[u8],
     nodes: &mut [u16],
     text: &mut [u8],
     keys: &mut [u16],
-    i: usize,
-    u: usize,
-    k: usize,
+    at: At,
+    level: Level,
     start: usize,
-    p: usize,
-    left: usize,
-    lines: bool,
     kind: u16,
     before: usize,
 ) -> Result<Reading, Refused>
-    requires { Asked s.now keys.old i u k p × Laying start p before kind }
-    ensures { SaidMade Any s.now (under_any kind left lines) start any_before kind (layout_of kind) p i u before p k nodes.old nodes.new text.old text.new keys.old keys.new (answered result) }
+    requires { AskedAt s.now keys.old at × Laying start at.place before kind }
+    ensures { SaidLaid s.now at level start before kind nodes.old nodes.new text.old text.new keys.old keys.new result }
 {
     let mut pc = begin(kind);
-    let mut q = p;
+    let mut q = at.place;
     let mut n = 0;
     let mut t = 0;
     loop {
         let x = instr(pc);
         if x.op == Instr::FIN {
-            return Ok(close(nodes, i, n, kind, x.arg, start, q, before, t));
+            return Ok(close(nodes, at.records, n, kind, x.arg, start, q, before, t));
         }
-        let mut at = q;
+        let mut place = q;
         let mut further = pc + 1;
         if x.op != Instr::KID {
-            let to = match walk(s, left, lines, x.arg, q) {
+            let to = match walk(s, level.left, level.lines, x.arg, q) {
                 Ok(to) => to,
                 Err(refused) => {
                     if x.op == Instr::MOVE {
@@ -305,22 +259,16 @@ pub fn laid(
                 pc = pc + 1;
                 continue;
             }
-            at = to;
+            place = to;
             further = pc;
         }
-        let m = sub(
-            s,
-            nodes,
-            text,
-            keys,
-            i + n,
-            u + t,
-            k,
-            at,
-            left,
-            lines,
-            x.class,
-        )?;
+        let on = At {
+            records: at.records + n,
+            text: at.text + t,
+            place,
+            ..at
+        };
+        let m = sub(s, nodes, text, keys, on, level, x.class)?;
         q = m.end;
         n = n + m.count;
         t = t + m.text;
@@ -328,86 +276,70 @@ pub fn laid(
     }
 }
 
-// A child of a class at p, under a node with so many levels left in a mode.
+// A child of a class, under a node of a level.
 #[cycle(tree)]
 pub fn sub(
     s: &[u8],
     nodes: &mut [u16],
     text: &mut [u8],
     keys: &mut [u16],
-    i: usize,
-    u: usize,
-    k: usize,
-    p: usize,
-    left: usize,
-    lines: bool,
+    at: At,
+    level: Level,
     class: u8,
 ) -> Result<Reading, Refused>
-    requires { Asked s.now keys.old i u k p × T (has classes class) }
-    ensures { SaidSub class left lines s.now i u k p nodes.old nodes.new text.old text.new keys.old keys.new (answered result) }
+    requires { AskedAt s.now keys.old at × T (has classes class) }
+    ensures { SaidSubAt class s.now at level nodes.old nodes.new text.old text.new keys.old keys.new result }
 {
-    let y = child(class, left, lines);
+    let y = child(class, level.left, level.lines);
+    let under = Level {
+        left: y.left,
+        lines: y.lines,
+    };
     if class == CALLED {
-        return called(s, nodes, i, p);
+        return called(s, nodes, at);
     }
     if class == FILTER {
-        return laid(
-            s,
-            nodes,
-            text,
-            keys,
-            i,
-            u,
-            k,
-            p,
-            p,
-            y.left,
-            y.lines,
-            Kind::CONDITION,
-            0,
-        );
+        let kind = Kind::CONDITION;
+        return laid(s, nodes, text, keys, at, under, at.place, kind, 0);
     }
     if class == PORTION {
-        let kind = part_at(s, p);
-        if kind == Kind::NONE {
-            return Err(unexpected(s, p));
-        }
-        return laid(
-            s, nodes, text, keys, i, u, k, p, p, y.left, y.lines, kind, 0,
-        );
+        let Some(kind) = part_at(s, at.place) else {
+            return Err(unexpected(s, at.place));
+        };
+        return laid(s, nodes, text, keys, at, under, at.place, kind, 0);
     }
-    expr(s, nodes, text, keys, i, u, k, p, y.left, y.lines, y.bound)
+    expr(s, nodes, text, keys, at, under, y.bound)
 }
 
-// An array at p: its items, with a comma between two and perhaps behind the last.
+// An array: its items, with a comma between two and perhaps behind the last.
 #[cycle(tree)]
 pub fn array(
     s: &[u8],
     nodes: &mut [u16],
     text: &mut [u8],
     keys: &mut [u16],
-    i: usize,
-    u: usize,
-    k: usize,
-    p: usize,
-    left: usize,
-    lines: bool,
+    at: At,
+    level: Level,
 ) -> Result<Reading, Refused>
-    requires { Asked s.now keys.old i u k p × (byte_at s.now p ≡ 91) }
-    ensures { SaidMade Any s.now (under_any 11 left lines) p any_before 11 (layout_of 11) p i u 0 p k nodes.old nodes.new text.old text.new keys.old keys.new (answered result) }
+    requires { AskedAt s.now keys.old at × (byte_at s.now at.place ≡ 91) }
+    ensures { SaidLaid s.now at level at.place 0 11 nodes.old nodes.new text.old text.new keys.old keys.new result }
 {
-    if left == 0 {
-        return Err(Refusal::Deep.at(p));
-    }
-    let g = space(s, p + 1, true)?;
+    let under = level.deeper(at.place, true)?;
+    let g = space(s, at.place + 1, true)?;
     let mut q = g;
     let mut n = 0;
     let mut t = 0;
     loop {
         if one_at(s, q, 93) {
-            return Ok(close(nodes, i, n, Kind::ARRAY, 0, p, q + 1, 0, t));
+            return Ok(close_at(nodes, at, n, Kind::ARRAY, 0, q + 1, t));
         }
-        let m = expr(s, nodes, text, keys, i + n, u + t, k, q, left - 1, true, 0)?;
+        let on = At {
+            records: at.records + n,
+            text: at.text + t,
+            place: q,
+            ..at
+        };
+        let m = expr(s, nodes, text, keys, on, under, 0)?;
         n = n + m.count;
         t = t + m.text;
         let c = beyond(s, m.end)?;
@@ -415,138 +347,124 @@ pub fn array(
     }
 }
 
-// An expression in brackets at p, of a kind, with what closes it.
+// An expression in brackets, of a kind, with what closes it.
 #[cycle(tree)]
 pub fn within(
     s: &[u8],
     nodes: &mut [u16],
     text: &mut [u8],
     keys: &mut [u16],
-    i: usize,
-    u: usize,
-    k: usize,
-    p: usize,
-    left: usize,
-    lines: bool,
+    at: At,
+    level: Level,
     kind: u16,
     closer: u8,
 ) -> Result<Reading, Refused>
-    requires { Asked s.now keys.old i u k p × Bracketed s.now p kind closer }
-    ensures { SaidMade Any s.now (under_any kind left lines) p any_before kind (layout_of kind) p i u 0 p k nodes.old nodes.new text.old text.new keys.old keys.new (answered result) }
+    requires { AskedAt s.now keys.old at × Bracketed s.now at.place kind closer }
+    ensures { SaidLaid s.now at level at.place 0 kind nodes.old nodes.new text.old text.new keys.old keys.new result }
 {
-    if left == 0 {
-        return Err(Refusal::Deep.at(p));
-    }
-    let g = space(s, p + 1, true)?;
-    let m = expr(s, nodes, text, keys, i, u, k, g, left - 1, true, 0)?;
+    let under = level.deeper(at.place, true)?;
+    let g = space(s, at.place + 1, true)?;
+    let m = expr(s, nodes, text, keys, At { place: g, ..at }, under, 0)?;
     let h = space(s, m.end, true)?;
     if !one_at(s, h, closer) {
         return Err(unexpected(s, h));
     }
-    Ok(close(nodes, i, m.count, kind, 0, p, h + 1, 0, m.text))
+    Ok(close_at(nodes, at, m.count, kind, 0, h + 1, m.text))
 }
 
-// A part of a traversal at p.
+// A part of a traversal.
 #[cycle(tree)]
 pub fn part(
     s: &[u8],
     nodes: &mut [u16],
     text: &mut [u8],
     keys: &mut [u16],
-    i: usize,
-    u: usize,
-    k: usize,
-    p: usize,
-    left: usize,
-    lines: bool,
+    at: At,
+    level: Level,
 ) -> Result<Reading, Refused>
-    requires { Asked s.now keys.old i u k p }
-    ensures { SaidSub 10 left lines s.now i u k p nodes.old nodes.new text.old text.new keys.old keys.new (answered result) }
+    requires { AskedAt s.now keys.old at }
+    ensures { SaidSubAt 10 s.now at level nodes.old nodes.new text.old text.new keys.old keys.new result }
 {
-    let kind = part_at(s, p);
-    if kind == Kind::NONE {
-        return Err(unexpected(s, p));
-    }
+    let Some(kind) = part_at(s, at.place) else {
+        return Err(unexpected(s, at.place));
+    };
     if kind == Kind::ATTRIBUTE {
-        return attribute(s, nodes, i, p);
+        return attribute(s, nodes, at);
     }
     if kind == Kind::INDEX {
-        return within(s, nodes, text, keys, i, u, k, p, left, lines, kind, 93);
+        return within(s, nodes, text, keys, at, level, kind, 93);
     }
-    laid(s, nodes, text, keys, i, u, k, p, p, left, lines, kind, 0)
+    laid(s, nodes, text, keys, at, level, at.place, kind, 0)
 }
 
-// The parts of a traversal from p on, for a node from `start`; `before` records of its base stand before the i-th.
+// The parts of a traversal from the place on, for a node from `start`; `before` records of its base stand before their own.
 #[cycle(tree)]
 pub fn parts(
     s: &[u8],
     nodes: &mut [u16],
     text: &mut [u8],
     keys: &mut [u16],
-    i: usize,
-    u: usize,
-    k: usize,
+    at: At,
+    level: Level,
     start: usize,
-    p: usize,
-    left: usize,
-    lines: bool,
     before: usize,
 ) -> Result<Reading, Refused>
-    requires { Asked s.now keys.old i u k p × Laying start p before 37 }
-    ensures { SaidMade Any s.now (under_any 37 left lines) start any_before 37 (layout_of 37) p i u before p k nodes.old nodes.new text.old text.new keys.old keys.new (answered result) }
+    requires { AskedAt s.now keys.old at × Laying start at.place before 37 }
+    ensures { SaidLaid s.now at level start before 37 nodes.old nodes.new text.old text.new keys.old keys.new result }
 {
-    let mut q = p;
+    let kind = Kind::TRAVERSAL;
+    let mut q = at.place;
     let mut n = 0;
     let mut t = 0;
     loop {
-        let at = match space(s, q, lines) {
-            Ok(at) => at,
+        let g = match space(s, q, level.lines) {
+            Ok(g) => g,
             Err(refused) => {
                 if n == 0 {
                     return Err(refused);
                 }
-                return Ok(close(nodes, i, n, Kind::TRAVERSAL, 0, start, q, before, t));
+                return Ok(close(nodes, at.records, n, kind, 0, start, q, before, t));
             }
         };
-        if !is_part(s, at) {
+        if !is_part(s, g) {
             if n == 0 {
-                return Err(unexpected(s, at));
+                return Err(unexpected(s, g));
             }
-            return Ok(close(nodes, i, n, Kind::TRAVERSAL, 0, start, q, before, t));
+            return Ok(close(nodes, at.records, n, kind, 0, start, q, before, t));
         }
-        let m = part(s, nodes, text, keys, i + n, u + t, k, at, left, lines)?;
+        let on = At {
+            records: at.records + n,
+            text: at.text + t,
+            place: g,
+            ..at
+        };
+        let m = part(s, nodes, text, keys, on, level)?;
         q = m.end;
         n = n + m.count;
         t = t + m.text;
     }
 }
 
-// An interpolation at p.
+// An interpolation.
 #[cycle(tree)]
 pub fn interp(
     s: &[u8],
     nodes: &mut [u16],
     text: &mut [u8],
     keys: &mut [u16],
-    i: usize,
-    u: usize,
-    k: usize,
-    p: usize,
-    left: usize,
-    lines: bool,
+    at: At,
+    level: Level,
 ) -> Result<Reading, Refused>
-    requires { Asked s.now keys.old i u k p }
-    ensures { SaidMade Any s.now (under_any 10 left lines) p any_before 10 (layout_of 10) p i u 0 p k nodes.old nodes.new text.old text.new keys.old keys.new (answered result) }
+    requires { AskedAt s.now keys.old at }
+    ensures { SaidLaid s.now at level at.place 0 10 nodes.old nodes.new text.old text.new keys.old keys.new result }
 {
-    if !two_at(s, p, 36, 123) {
-        return Err(unexpected(s, p));
+    if !two_at(s, at.place, 36, 123) {
+        return Err(unexpected(s, at.place));
     }
-    if left == 0 {
-        return Err(Refusal::Deep.at(p));
-    }
-    let f = tilde(s, p + 2);
-    let g = space(s, p + 2 + f, true)?;
-    let m = expr(s, nodes, text, keys, i, u, k, g, left - 1, true, 0)?;
+    let under = level.deeper(at.place, true)?;
+    let f = tilde(s, at.place + 2);
+    let g = space(s, at.place + 2 + f, true)?;
+    let m = expr(s, nodes, text, keys, At { place: g, ..at }, under, 0)?;
     let h = space(s, m.end, true)?;
     let z = tilde(s, h);
     let c = h + z;
@@ -554,305 +472,226 @@ pub fn interp(
         return Err(unexpected(s, c));
     }
     let flag = f + 2 * z;
-    Ok(close(
-        nodes,
-        i,
-        m.count,
-        Kind::INTERPOLATION,
-        flag,
-        p,
-        c + 1,
-        0,
-        m.text,
-    ))
+    Ok(close_at(nodes, at, m.count, Kind::INTERPOLATION, flag, c + 1, m.text))
 }
 
-// A quote at p: a string, or a template where an interpolation ends its first run.
+// A quote: a string, or a template where an interpolation ends its first run.
 #[cycle(tree)]
 pub fn quoted(
     s: &[u8],
     nodes: &mut [u16],
     text: &mut [u8],
     keys: &mut [u16],
-    i: usize,
-    u: usize,
-    k: usize,
-    p: usize,
-    left: usize,
-    lines: bool,
+    at: At,
+    level: Level,
 ) -> Result<Reading, Refused>
-    requires { Asked s.now keys.old i u k p × (byte_at s.now p ≡ 34) }
-    ensures { Said (Heads s.now (under left lines an_expression) p) s.now i u k p nodes.old nodes.new text.old text.new keys.old keys.new (answered result) }
+    requires { AskedAt s.now keys.old at × (byte_at s.now at.place ≡ 34) }
+    ensures { SaidAt Heads s.now at level nodes.old nodes.new text.old text.new keys.old keys.new result }
 {
-    let r = run_at(s, p + 1, true, 0, 0);
+    let r = run_at(s, at.place + 1, Round::Quoted);
     let why = r.why;
     let Why::Interpolation = why else {
-        return string(s, nodes, text, i, u, p, r);
+        return string(s, nodes, text, at, r);
     };
+    let inside = At {
+        place: at.place + 1,
+        ..at
+    };
+    let kind = Kind::TEMPLATE;
     pieces(
         s,
         nodes,
         text,
         keys,
-        i,
-        u,
-        k,
-        p,
-        p + 1,
-        left,
-        lines,
-        Kind::TEMPLATE,
+        inside,
+        level,
+        at.place,
+        kind,
         0,
-        true,
-        0,
-        0,
+        Round::Quoted,
     )
 }
 
-// A heredoc at p.
+// A heredoc.
 #[cycle(tree)]
 pub fn heredoc(
     s: &[u8],
     nodes: &mut [u16],
     text: &mut [u8],
     keys: &mut [u16],
-    i: usize,
-    u: usize,
-    k: usize,
-    p: usize,
-    left: usize,
-    lines: bool,
+    at: At,
+    level: Level,
 ) -> Result<Reading, Refused>
-    requires { Asked s.now keys.old i u k p × (pick_at s.now (under left lines an_expression) p ≡ some 8) }
-    ensures { Said (Heads s.now (under left lines an_expression) p) s.now i u k p nodes.old nodes.new text.old text.new keys.old keys.new (answered result) }
+    requires { AskedAt s.now keys.old at × (pick_at s.now (at_level level) at.place ≡ some 8) }
+    ensures { SaidAt Heads s.now at level nodes.old nodes.new text.old text.new keys.old keys.new result }
 {
-    let o = match opener_at(s, p) {
+    let o = match opener_at(s, at.place) {
         Ok(o) => o,
-        Err(at) => return Err(unexpected(s, at)),
+        Err(end) => return Err(unexpected(s, end)),
     };
     let flag = usize::from(o.dash);
+    let inside = At { place: o.at, ..at };
+    let round = Round::Heredoc {
+        from: o.from,
+        to: o.to,
+    };
+    let kind = Kind::HEREDOC;
     pieces(
-        s,
-        nodes,
-        text,
-        keys,
-        i,
-        u,
-        k,
-        p,
-        o.at,
-        left,
-        lines,
-        Kind::HEREDOC,
-        flag,
-        false,
-        o.from,
-        o.to,
+        s, nodes, text, keys, inside, level, at.place, kind, flag, round,
     )
 }
 
-// The text of a template or heredoc that starts at `start`, from p on: its pieces and interpolations, and its end.
+// The text of a template or heredoc that starts at `start`, from the place on: its pieces and interpolations, and its end.
 #[cycle(tree)]
 pub fn pieces(
     s: &[u8],
     nodes: &mut [u16],
     text: &mut [u8],
     keys: &mut [u16],
-    i: usize,
-    u: usize,
-    k: usize,
+    at: At,
+    level: Level,
     start: usize,
-    p: usize,
-    left: usize,
-    lines: bool,
     kind: u16,
     flag: usize,
-    plain: bool,
-    d: usize,
-    e: usize,
+    round: Round,
 ) -> Result<Reading, Refused>
-    requires { Asked s.now keys.old i u k p × Texting s.now start p kind flag plain d e }
-    ensures { SaidMade One s.now (λ _. under left lines an_expression) start (λ _. []) kind (text_lay flag) p i u 0 start k nodes.old nodes.new text.old text.new keys.old keys.new (answered result) }
+    requires { AskedAt s.now keys.old at × Texting s.now start at.place kind flag (quoted_of round) (from_of round) (to_of round) }
+    ensures { SaidText s.now at level start kind flag nodes.old nodes.new text.old text.new keys.old keys.new result }
 {
-    let mut q = p;
+    let mut q = at.place;
     let mut n = 0;
     let mut t = 0;
     loop {
-        let r = run_at(s, q, plain, d, e);
+        let r = run_at(s, q, round);
         let why = r.why;
+        let on = At {
+            records: at.records + n,
+            text: at.text + t,
+            place: q,
+            ..at
+        };
         if r.end != q {
-            let v = piece(
-                s,
-                nodes,
-                text,
-                i + n,
-                u + t,
-                q,
-                r.end,
-                r.escaped,
-                r.length,
-                plain,
-                d,
-                e,
-            );
+            let v = piece(s, nodes, text, on, r, round);
             q = r.end;
             n = n + 1;
             t = t + v;
             continue;
         }
         let Why::Interpolation = why else {
-            let c = ends(s, start, q, d, e, why)?;
-            return Ok(close(nodes, i, n, kind, flag, start, c, 0, t));
+            let c = ends(s, start, q, round, why)?;
+            return Ok(close(nodes, at.records, n, kind, flag, start, c, 0, t));
         };
-        let m = interp(s, nodes, text, keys, i + n, u + t, k, q, left, lines)?;
+        let m = interp(s, nodes, text, keys, on, level)?;
         q = m.end;
         n = n + m.count;
         t = t + m.text;
     }
 }
 
-// An object at p. Its keys that may be compared stand in the slots from the k-th on.
+// An object. Its keys that may be compared stand in the slots from the next one on.
 #[cycle(tree)]
 pub fn object(
     s: &[u8],
     nodes: &mut [u16],
     text: &mut [u8],
     keys: &mut [u16],
-    i: usize,
-    u: usize,
-    k: usize,
-    p: usize,
-    left: usize,
-    lines: bool,
+    at: At,
+    level: Level,
 ) -> Result<Reading, Refused>
-    requires { Asked s.now keys.old i u k p × (pick_at s.now (under left lines an_expression) p ≡ some 12) }
-    ensures { Said (Heads s.now (under left lines an_expression) p) s.now i u k p nodes.old nodes.new text.old text.new keys.old keys.new (answered result) }
+    requires { AskedAt s.now keys.old at × (pick_at s.now (at_level level) at.place ≡ some 12) }
+    ensures { SaidAt Heads s.now at level nodes.old nodes.new text.old text.new keys.old keys.new result }
 {
-    if left == 0 {
-        return Err(Refusal::Deep.at(p));
-    }
-    let g = space(s, p + 1, true)?;
+    let under = level.deeper(at.place, true)?;
+    let g = space(s, at.place + 1, true)?;
     if one_at(s, g, 125) {
-        return Ok(close(nodes, i, 0, Kind::OBJECT, 0, p, g + 1, 0, 0));
+        return Ok(close_at(nodes, at, 0, Kind::OBJECT, 0, g + 1, 0));
     }
     let mut q = g;
     let mut n = 0;
     let mut t = 0;
-    let mut top = k;
+    let mut top = at.keys;
     loop {
         let word = key_at(s, q);
         let h = marked(s, q, word);
-        let m = item(
-            s,
-            nodes,
-            text,
-            keys,
-            i + n,
-            u + t,
-            top,
-            k,
-            q,
-            left - 1,
-            h,
-            word,
-        )?;
+        let on = At {
+            records: at.records + n,
+            text: at.text + t,
+            keys: top,
+            place: q,
+        };
+        let m = item(s, nodes, text, keys, on, under.left, at.keys, h, word)?;
         n = n + m.count;
         t = t + m.text;
         let c = behind(s, m.end)?;
         if one_at(s, c, 125) {
-            return Ok(close(nodes, i, n, Kind::OBJECT, 0, p, c + 1, 0, t));
+            return Ok(close_at(nodes, at, n, Kind::OBJECT, 0, c + 1, t));
         }
-        top = keep(s, keys, k, top, q, h, word.is_some());
+        top = keep(s, keys, on, at.keys, h, word.is_some());
         q = c;
     }
 }
 
-// An item at p, whose key has the mark h and is perhaps a word, with the earlier keys of its object in the slots from the first-th to before the k-th.
+// An item, whose key has the mark h and is perhaps a word, with the earlier keys of its object in the slots from the first-th to before the next one.
 #[cycle(tree)]
 pub fn item(
     s: &[u8],
     nodes: &mut [u16],
     text: &mut [u8],
     keys: &mut [u16],
-    i: usize,
-    u: usize,
-    k: usize,
-    first: usize,
-    p: usize,
+    at: At,
     left: usize,
+    first: usize,
     h: u16,
     word: Option<Key>,
 ) -> Result<Reading, Refused>
-    requires { Asked s.now keys.old i u k p × Indexed s.now keys.old first k × (h ≡ mark_at s.now p) × KeyAt s.now p word }
-    ensures { SaidItem s.now left i u k first p nodes.old nodes.new text.old text.new keys.old keys.new (answered result) }
+    requires { AskedAt s.now keys.old at × Indexed s.now keys.old first at.keys × (h ≡ mark_at s.now at.place) × KeyAt s.now at.place word }
+    ensures { SaidItemAt s.now at left first nodes.old nodes.new text.old text.new keys.old keys.new result }
 {
     if let Some(key) = word {
-        return named(s, nodes, text, keys, i, u, k, first, p, left, h, key);
+        return named(s, nodes, text, keys, at, left, first, h, key);
     }
-    let m = expr(s, nodes, text, keys, i, u, k, p, left, false, 0)?;
-    bare(s, nodes, i, m.count, p, m.end);
-    let c = sign_at(s, keys, first, k, p, h, m.end)?;
+    let m = expr(s, nodes, text, keys, at, Level { left, lines: false }, 0)?;
+    bare(s, nodes, at, m);
+    let c = sign_at(s, keys, at, first, h, m.end)?;
     let g = space(s, c.at, false)?;
-    let v = expr(
-        s,
-        nodes,
-        text,
-        keys,
-        i + m.count,
-        u + m.text,
-        k,
-        g,
-        left,
-        false,
-        0,
-    )?;
-    Ok(close(
-        nodes,
-        i,
-        m.count + v.count,
-        Kind::ITEM,
-        c.flag,
-        p,
-        v.end,
-        0,
-        m.text + v.text,
-    ))
+    let on = At {
+        records: at.records + m.count,
+        text: at.text + m.text,
+        place: g,
+        ..at
+    };
+    let v = expr(s, nodes, text, keys, on, Level { left, lines: false }, 0)?;
+    let n = m.count + v.count;
+    let t = m.text + v.text;
+    Ok(close_at(nodes, at, n, Kind::ITEM, c.flag, v.end, t))
 }
 
-// An item whose key is a word at p with its sign.
+// An item whose key is a word with its sign.
 #[cycle(tree)]
 pub fn named(
     s: &[u8],
     nodes: &mut [u16],
     text: &mut [u8],
     keys: &mut [u16],
-    i: usize,
-    u: usize,
-    k: usize,
-    first: usize,
-    p: usize,
+    at: At,
     left: usize,
+    first: usize,
     h: u16,
     word: Key,
 ) -> Result<Reading, Refused>
-    requires { Asked s.now keys.old i u k p × Indexed s.now keys.old first k × (h ≡ mark_at s.now p) × Word s.now p word }
-    ensures { SaidItem s.now left i u k first p nodes.old nodes.new text.old text.new keys.old keys.new (answered result) }
+    requires { AskedAt s.now keys.old at × Indexed s.now keys.old first at.keys × (h ≡ mark_at s.now at.place) × Word s.now at.place word }
+    ensures { SaidItemAt s.now at left first nodes.old nodes.new text.old text.new keys.old keys.new result }
 {
-    name(nodes, i, word.kind, p, word.end);
-    if find(s, keys, first, k, p, h) {
-        return Err(Refusal::Duplicate.at(p));
+    name(nodes, at, word);
+    if find(s, keys, first, at.keys, at.place, h) {
+        return Err(Refusal::Duplicate.at(at.place));
     }
     let g = space(s, word.at + 1, false)?;
-    let v = expr(s, nodes, text, keys, i + 1, u, k, g, left, false, 0)?;
-    Ok(close(
-        nodes,
-        i,
-        1 + v.count,
-        Kind::ITEM,
-        word.flag,
-        p,
-        v.end,
-        0,
-        v.text,
-    ))
+    let on = At {
+        records: at.records + 1,
+        place: g,
+        ..at
+    };
+    let v = expr(s, nodes, text, keys, on, Level { left, lines: false }, 0)?;
+    Ok(close_at(nodes, at, 1 + v.count, Kind::ITEM, word.flag, v.end, v.text))
 }

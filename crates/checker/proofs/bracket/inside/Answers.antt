@@ -7,4 +7,4 @@ pub returns-in_default : goal.returns-in_default
 returns-in_default c = inside_gap_no c.in_default.ensures (numbered _)
 
 pub returns : goal.returns
-returns c = inside_by c.in-Ok.ensures refl c.requires.1 refl c.kid.ensures
+returns c = inside_by c.in-Ok.ensures refl c.requires.1 c.inner.ensures c.kid.ensures

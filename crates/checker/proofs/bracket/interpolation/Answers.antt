@@ -1,46 +1,18 @@
-use native.Mathlib.Omega.{arith}
 use borrow.Author.Tests.{not-true, not-false}
 use Rattle.checker.proofs.Enclosures.{seated, step_on, opener_deep, opener_no, opener_on, tilde_on}
 use Rattle.checker.proofs.bracket.interpolation.Goals as goal
 
-pub returns-then-own-lt2 : goal.returns-then-own-lt2
-returns-then-own-lt2 c = opener_deep c.if-own-lt2.true
+pub returns-then-site-lt2 : goal.returns-then-site-lt2
+returns-then-site-lt2 c = opener_deep c.if-site-lt2.true
 
 pub returns-then-b-p : goal.returns-then-b-p
-returns-then-b-p c = opener_no c.if-own-lt2.false c.pair_end-b.ensures c.if-b-p.true
+returns-then-b-p c = opener_no c.if-site-lt2.false c.pair_end-b.ensures c.if-b-p.true
 
 pub inside-requires : goal.inside-requires
-inside-requires c = (seated c.requires, c.if-own-lt2.false)
-
-pub shape_of-depths-then-not-inside : goal.shape_of-depths-then-not-inside
-shape_of-depths-then-not-inside c = c.inside.ensures.long
+inside-requires c = (seated c.requires, c.if-site-lt2.false)
 
 pub returns-then-not-inside : goal.returns-then-not-inside
-returns-then-not-inside c = opener_on c.if-own-lt2.false c.pair_end-b.ensures c.if-b-p.false (tilde_on c.mark_end-l.ensures (c.inside.ensures.no (not-true _ c.if-not-inside.true-raw) _ _))
-
-pub offset_bounds-marks-j : goal.offset_bounds-marks-j
-offset_bounds-marks-j c = omega (arith, c.inside.ensures.inside (not-false _ c.if-not-inside.false-raw), c.requires.within)
-
-pub bounds-marks-j : goal.bounds-marks-j
-bounds-marks-j c = omega (arith, c.inside.ensures.inside (not-false _ c.if-not-inside.false-raw), c.requires.marked)
-
-pub overflow_mul-j : goal.overflow_mul-j
-overflow_mul-j c = omega (arith, c.inside.ensures.inside (not-false _ c.if-not-inside.false-raw), c.requires.within)
-
-pub overflow_add-j : goal.overflow_add-j
-overflow_add-j c = omega (arith, c.inside.ensures.inside (not-false _ c.if-not-inside.false-raw), c.requires.within)
-
-pub offset_bounds-table-j : goal.offset_bounds-table-j
-offset_bounds-table-j c = omega (arith, c.inside.ensures.inside (not-false _ c.if-not-inside.false-raw), c.requires.within)
-
-pub bounds-table-j : goal.bounds-table-j
-bounds-table-j c = omega (arith, c.inside.ensures.inside (not-false _ c.if-not-inside.false-raw), c.requires.within)
-
-pub stripped-requires : goal.stripped-requires
-stripped-requires c = c.requires.within
-
-pub shape_of-depths : goal.shape_of-depths
-shape_of-depths c = c.inside.ensures.long
+returns-then-not-inside c = opener_on c.if-site-lt2.false c.pair_end-b.ensures c.if-b-p.false (tilde_on c.mark_end-l.ensures (c.inside.ensures.no (not-true _ c.if-not-inside.true-raw) _ _))
 
 pub returns : goal.returns
-returns c = opener_on c.if-own-lt2.false c.pair_end-b.ensures c.if-b-p.false (tilde_on c.mark_end-l.ensures (step_on c.inside.ensures (not-false _ c.if-not-inside.false-raw) c.requires c.wide.ensures.0 c.wide-2.ensures.0 (c.stripped.ensures.rest _ _ _)))
+returns c = opener_on c.if-site-lt2.false c.pair_end-b.ensures c.if-b-p.false (tilde_on c.mark_end-l.ensures (step_on c.inside.ensures (not-false _ c.if-not-inside.false-raw) c.requires c.next.ensures c.end.ensures.0 (c.stripped.ensures.rest _ _ _)))

@@ -3,8 +3,8 @@ use Rattle.grammar.specs.Layouts.{call_lay}
 use Rattle.checker.proofs.Onwards.{Onward}
 use Rattle.checker.proofs.call.call.Given as goal
 
-abbrev pub invariant-loop-i : goal.invariant-loop-i
-invariant-loop-i l = Onward l.s l.table l.i l.own l.marks l.initial.depths call_lay l.first l.p l.depths call_lay l.j l.at
+abbrev pub invariant-loop-first : goal.invariant-loop-first
+invariant-loop-first l = Onward l.site.s.now l.site.table.now l.site.i l.site.own l.site.marks.now l.initial.depths call_lay l.first l.p l.depths call_lay l.j l.at
 
-abbrev pub decreases-loop-i : goal.decreases-loop-i
-decreases-loop-i l = l.i - l.j
+abbrev pub decreases-loop-first : goal.decreases-loop-first
+decreases-loop-first l = l.site.i - l.j

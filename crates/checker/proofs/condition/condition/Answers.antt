@@ -17,4 +17,4 @@ pub returns-then-not-kid : goal.returns-then-not-kid
 returns-then-not-kid c = test_no c.if_end-e.ensures c.if-e-p.false c.in-Ok.ensures refl c.requires.1 c.kid.ensures c.if-not-kid.true
 
 pub returns : goal.returns
-returns c = test_by c.if_end-e.ensures c.if-e-p.false c.in-Ok.ensures refl c.requires.1 c.kid.ensures c.if-not-kid.false c.requires.0 c.wide.ensures.0 c.wide-2.ensures.0 c.ends.ensures
+returns c = test_by c.if_end-e.ensures c.if-e-p.false c.in-Ok.ensures refl c.requires.1 c.kid.ensures c.if-not-kid.false c.requires.0 c.next.ensures c.end.ensures.0 c.ends.ensures

@@ -14,10 +14,10 @@ pub kid-requires : goal.kid-requires
 kid-requires c = seated c.requires.0
 
 pub returns-then-not-kid : goal.returns-then-not-kid
-returns-then-not-kid c = filter_no c.in-Ok.ensures refl c.if_end.ensures c.if-if_end-at.false c.requires.1 refl c.kid.ensures c.if-not-kid.true
+returns-then-not-kid c = filter_no c.in-Ok.ensures refl c.if_end.ensures c.if-if_end-at.false c.requires.1 c.inner.ensures c.kid.ensures c.if-not-kid.true
 
 pub returns-in_default-space : goal.returns-in_default-space
-returns-in_default-space c = filter_on c.in-Ok.ensures refl c.if_end.ensures c.if-if_end-at.false c.requires.1 refl c.kid.ensures c.if-not-kid.false c.requires.0 c.wide-k.ensures.0 c.wide-q.ensures.0 (closer_gap_no c.in_default-space.ensures (numbered _))
+returns-in_default-space c = filter_on c.in-Ok.ensures refl c.if_end.ensures c.if-if_end-at.false c.requires.1 c.inner.ensures c.kid.ensures c.if-not-kid.false c.requires.0 c.next-k.ensures c.end-q.ensures.0 (closer_gap_no c.in_default-space.ensures (numbered _))
 
 pub returns : goal.returns
-returns c = filter_on c.in-Ok.ensures refl c.if_end.ensures c.if-if_end-at.false c.requires.1 refl c.kid.ensures c.if-not-kid.false c.requires.0 c.wide-k.ensures.0 c.wide-q.ensures.0 (shut_on c.in-Ok-space.ensures refl c.shut-2.ensures)
+returns c = filter_on c.in-Ok.ensures refl c.if_end.ensures c.if-if_end-at.false c.requires.1 c.inner.ensures c.kid.ensures c.if-not-kid.false c.requires.0 c.next-k.ensures c.end-q.ensures.0 (shut_on c.in-Ok-space.ensures refl c.shut-2.ensures)

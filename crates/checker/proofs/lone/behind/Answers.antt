@@ -31,7 +31,7 @@ pub overflow_add-new : goal.overflow_add-new
 overflow_add-new c = omega (arith, trail_inside c.loop-memo.invariant.0, c.loop-memo.invariant.0.low)
 
 pub returns-then-not-two_at : goal.returns-then-not-two_at
-returns-then-not-two_at c = trail_sign c.loop-memo.invariant.0 c.closer-e.ensures c.if-e-s.false c.spaces-q.ensures c.two_at.ensures (not-true _ c.if-not-two_at.true-raw) c.sign_at-yes.ensures c.loop-memo.invariant.1 c.later-kept.ensures
+returns-then-not-two_at c = trail_sign c.loop-memo.invariant.0 c.closer-e.ensures c.if-e-s.false c.spaces-q.ensures c.two_at.ensures (not-true _ c.if-not-two_at.true-raw) c.signs-yes.ensures c.loop-memo.invariant.1 c.later-kept.ensures
 
 pub loop-memo-smaller : goal.loop-memo-smaller
 loop-memo-smaller c = omega (arith, trail_inside c.loop-memo.invariant.0, c.closer-e.ensures.low, c.spaces-q.ensures.low)

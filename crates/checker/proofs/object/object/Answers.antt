@@ -6,20 +6,20 @@ use Rattle.checker.proofs.Lones.{known_nothing}
 use Rattle.checker.proofs.Objects.{after_as, object_deep, object_no, object_gap_no, object_empty, object_first, ahead_passing, object_item, object_item_no, object_up, object_more, object_open, object_end}
 use Rattle.checker.proofs.object.object.Goals as goal
 
-pub returns-then-left-eq0 : goal.returns-then-left-eq0
-returns-then-left-eq0 c = (object_deep _ _ _ _ _ _ _ _ _ c.requires.0 c.requires.1 c.if-left-eq0.true, c.requires.2.key)
+pub returns-then-site-lt2 : goal.returns-then-site-lt2
+returns-then-site-lt2 c = (object_deep _ _ _ _ _ _ _ _ _ c.requires.0 c.requires.1 (omega (arith, c.if-site-lt2.true)), c.requires.2.key)
 
 pub returns-then-b-p : goal.returns-then-b-p
-returns-then-b-p c = (object_no _ _ _ _ _ _ _ _ _ c.requires.0 c.requires.1 c.if-left-eq0.false c.mark_end-b.ensures c.if-b-p.true, c.requires.2.key)
+returns-then-b-p c = (object_no _ _ _ _ _ _ _ _ _ c.requires.0 c.requires.1 (λ e. omega (arith, e, c.if-site-lt2.false)) c.mark_end-b.ensures c.if-b-p.true, c.requires.2.key)
 
 pub returns-in_default : goal.returns-in_default
-returns-in_default c = (object_gap_no _ _ _ _ _ _ _ _ _ c.requires.0 c.requires.1 c.if-left-eq0.false c.mark_end-b.ensures c.if-b-p.false c.in_default.ensures (numbered _), c.requires.2.key)
+returns-in_default c = (object_gap_no _ _ _ _ _ _ _ _ _ c.requires.0 c.requires.1 (λ e. omega (arith, e, c.if-site-lt2.false)) c.mark_end-b.ensures c.if-b-p.false c.in_default.ensures (numbered _), c.requires.2.key)
 
 pub returns-then-e-at : goal.returns-then-e-at
-returns-then-e-at c = (object_empty _ _ _ _ _ _ _ _ _ c.requires.0 c.requires.1 c.if-left-eq0.false c.mark_end-b.ensures c.if-b-p.false c.in-Ok.ensures refl c.mark_end-e.ensures c.if-e-at.true c.ends.ensures, c.requires.2.key)
+returns-then-e-at c = (object_empty _ _ _ _ _ _ _ _ _ c.requires.0 c.requires.1 (λ e. omega (arith, e, c.if-site-lt2.false)) c.mark_end-b.ensures c.if-b-p.false c.in-Ok.ensures refl c.mark_end-e.ensures c.if-e-at.true c.ends.ensures, c.requires.2.key)
 
 pub loop-c-init : goal.loop-c-init
-loop-c-init c = (object_first _ _ _ _ _ _ _ _ _ c.requires.0 c.requires.1 c.if-left-eq0.false c.mark_end-b.ensures c.if-b-p.false c.in-Ok.ensures refl c.mark_end-e.ensures c.if-e-at.false, c.requires.0, refl, known_nothing _ _, refl, c.requires.2)
+loop-c-init c = (object_first _ _ _ _ _ _ _ _ _ c.requires.0 c.requires.1 (λ e. omega (arith, e, c.if-site-lt2.false)) c.mark_end-b.ensures c.if-b-p.false c.in-Ok.ensures refl c.mark_end-e.ensures c.if-e-at.false, c.requires.0, refl, known_nothing _ _, refl, c.requires.2)
 
 pub pass-requires : goal.pass-requires
 pass-requires c = ahead_passing _ _ _ _ _ _ _ _ _ c.loop-c.invariant.0 c.loop-c.invariant.1 c.loop-c.invariant.2 c.token_at-t.ensures c.alone-key.ensures

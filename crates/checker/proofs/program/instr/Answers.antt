@@ -7,4 +7,4 @@ pub returns-then-pc-lt228 : goal.returns-then-pc-lt228
 returns-then-pc-lt228 c = instr_low c.if-pc-lt228.true c.instr.ensures
 
 pub returns : goal.returns
-returns c = instr_own c.args.pc c.word-x.result c.if-pc-lt228.false c.word-x.ensures refl refl refl refl (omega arith)
+returns c = rw c.unpacked.ensures (instr_own c.args.pc c.word.result c.if-pc-lt228.false c.word.ensures refl refl refl refl (omega arith))

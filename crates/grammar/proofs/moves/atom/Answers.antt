@@ -41,7 +41,7 @@ pub returns-in-12 : goal.returns-in-12
 returns-in-12 c = made_at c.args.s.now c.args.left c.args.lines c.args.p 12 c.args.x c.in-12.is (made_index c.args.s.now c.args.left c.args.lines c.args.p c.legacy.ensures)
 
 pub returns-in-13 : goal.returns-in-13
-returns-in-13 c = made_at c.args.s.now c.args.left c.args.lines c.args.p 13 c.args.x c.in-13.is (made_operator c.args.s.now c.args.left c.args.lines c.args.p c.args.x c.operator.ensures)
+returns-in-13 c = made_at c.args.s.now c.args.left c.args.lines c.args.p 13 c.args.x c.in-13.is (made_operator c.args.s.now c.args.left c.args.lines c.args.p c.args.x (rw c.from.ensures at c.operator.ensures))
 
 pub returns-in-14 : goal.returns-in-14
 returns-in-14 c = made_at c.args.s.now c.args.left c.args.lines c.args.p 14 c.args.x c.in-14.is (made_parts c.args.s.now c.args.left c.args.lines c.args.p c.part.ensures)

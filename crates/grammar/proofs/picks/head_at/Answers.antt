@@ -1,8 +1,8 @@
 use Prim.Native.Nat.{ℕ}
-use mathlib.Core.Path.{refl}
+use mathlib.Core.Path.{refl, ◌∙◌}
 use Rattle.lexis.specs.Word.{constant_at}
 use Rattle.grammar.specs.Alone.{head_of, HeadAt}
-use Rattle.grammar.proofs.Callings.{kind_by}
+use Rattle.grammar.proofs.Callings.{kind_by, kind_or}
 use borrow.Author.Tests.{not-false}
 use Rattle.lexis.specs.Bytes.{is_digit, is_start}
 use Rattle.grammar.proofs.Leaves.{tested}
@@ -13,7 +13,7 @@ pub returns-then-is_digit : goal.returns-then-is_digit
 returns-then-is_digit c = head_digits c.args.lines (tested is_digit c.byte_at-b.ensures c.is_digit.ensures c.if-is_digit.true) c.number_end-e.ensures c.headed.ensures
 
 pub returns-then-not-is_start : goal.returns-then-not-is_start
-returns-then-not-is_start c = head_other c.args.lines c.term_at-k.ensures c.headed-then-not-is_start.ensures
+returns-then-not-is_start c = head_other c.args.lines (λ left. c.unwrap_or-k.ensures ∙ kind_or c.term_at.result ∙ c.term_at.ensures.kind left) c.headed-then-not-is_start.ensures
 
 pub returns-then-calls : goal.returns-then-calls
 returns-then-calls c = head_call c.args.lines (tested is_digit c.byte_at-b.ensures c.is_digit.ensures c.if-is_digit.false) (tested is_start c.byte_at-b.ensures c.is_start.ensures (not-false c.is_start.result c.if-not-is_start.false-raw)) c.ident_end-e.ensures c.calls.ensures c.if-calls.true c.headed-then-calls.ensures

@@ -24,4 +24,4 @@ pub returns-in-12 : goal.returns-in-12
 returns-in-12 c = filter _ _ c.saturating_sub-in-12.ensures c.in-12.is
 
 pub returns-in_default : goal.returns-in_default
-returns-in_default c = operand c.args.class (λ e. omega arith) (λ e. omega arith) (λ e. omega arith) (λ e. omega arith) (λ e. omega arith) (λ e. omega arith) (λ e. omega arith) _ _
+returns-in_default c = rw c.from.ensures (operand c.args.class (λ e. omega arith) (λ e. omega arith) (λ e. omega arith) (λ e. omega arith) (λ e. omega arith) (λ e. omega arith) (λ e. omega arith) _ _)

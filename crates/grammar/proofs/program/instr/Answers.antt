@@ -9,4 +9,4 @@ use Rattle.grammar.proofs.Tables.{class_known}
 use Rattle.grammar.proofs.program.instr.Goals as goal
 
 pub returns : goal.returns
-returns c = record { op = ap operation c.word-x.ensures.is; arg = ap argument c.word-x.ensures.is; class = ap class c.word-x.ensures.is; next = ap otherwise c.word-x.ensures.is; here = omega arith; known = subst (λ (x : ℕ). T (has classes (class x))) (sym c.word-x.ensures.is) (class_known c.args.pc); short = omega arith; near = omega arith }
+returns c = rw c.unpacked.ensures (record { op = ap operation c.word.ensures.is; arg = ap argument c.word.ensures.is; class = ap class c.word.ensures.is; next = ap otherwise c.word.ensures.is; here = omega arith; known = subst (λ (x : ℕ). T (has classes (class x))) (sym c.word.ensures.is) (class_known c.args.pc); short = omega arith; near = omega arith })

@@ -1,6 +1,6 @@
 -- The first byte says which key it is.
 use mathlib.Core.Path.{sym, ◌∙◌}
-use Rattle.index.proofs.Marks.{mark_text, mark_none, mark_word}
+use Rattle.index.proofs.Marks.{mark_text, mark_none}
 use Rattle.index.proofs.mark.mark.Goals as goal
 
 pub returns-then-b-eq34 : goal.returns-then-b-eq34
@@ -10,4 +10,4 @@ pub returns-then-not-is_start : goal.returns-then-not-is_start
 returns-then-not-is_start c = mark_none c.byte_at-b.ensures c.if-b-eq34.false (sym c.is_start.ensures ∙ c.if-not-is_start.true)
 
 pub returns : goal.returns
-returns c = mark_word c.byte_at-b.ensures c.if-b-eq34.false (sym c.is_start.ensures ∙ c.if-not-is_start.false) c.word.ensures
+returns c = c.word_at.ensures.mark

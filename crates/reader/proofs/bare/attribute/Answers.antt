@@ -12,4 +12,4 @@ pub returns-then-e-g : goal.returns-then-e-g
 returns-then-e-g c = attribute_no c.requires.0 c.requires.1 c.in_ok-g.ensures refl c.ident_end-e.ensures c.if-e-g.true c.unexpected.ensures refl
 
 pub returns : goal.returns
-returns c = attribute_ok c.requires.0 c.requires.1 c.in_ok-g.ensures refl c.ident_end-e.ensures c.if-e-g.false (told_put c.close.ensures)
+returns c = attribute_ok c.requires.0 c.requires.1 c.in_ok-g.ensures refl c.ident_end-e.ensures c.if-e-g.false (told_put c.close_at.ensures)

@@ -1,7 +1,6 @@
 -- The measures of the cycle: the levels left, then what is left of the source, then a rank for calls at one place; and the loops of its members.
+use Rattle.lexis.specs.String.{quoted_of, from_of, to_of}
 use Prim.Native.Nat.{◌+◌, ◌*◌, ◌-◌}
-use Rattle.grammar.specs.Hcl.{under}
-use Rattle.grammar.specs.Moves.{an_expression}
 use Rattle.reader.proofs.Answers.{Turning}
 use Rattle.reader.proofs.Arrays.{Arraying}
 use Rattle.reader.proofs.Exprs.{Low, Only}
@@ -9,104 +8,104 @@ use Rattle.reader.proofs.Laids.{Turn as TurnLaids}
 use Rattle.reader.proofs.ObjectTurns.{Turn as TurnObjectTurns}
 use Rattle.reader.proofs.Parts.{Parting}
 use Rattle.reader.proofs.Pieces.{Round}
-use Rattle.reader.proofs.Ranks.{sub_rank}
-use Rattle.reader.specs.Said.{Asked, Kept, Laying, Texting}
+use Rattle.reader.proofs.Ranks.{ranked, sub_rank}
+use Rattle.reader.specs.Said.{AskedAt, Kept, Laying, Texting, at_level}
 use lib.ListN.{length}
 use mathlib.Core.Path.{◌≡◌}
 use Rattle.reader.proofs.tree.+tree.Given as goal
 
 abbrev pub decreases-array : goal.decreases-array
-decreases-array l = 8388608 * l.left + 128 * (length l.s.now - l.p) + 85
+decreases-array l = ranked l.level.left l.s.now l.at 85
 
 abbrev pub decreases-expr : goal.decreases-expr
-decreases-expr l = 8388608 * l.left + 128 * (length l.s.now - l.p) + 100
+decreases-expr l = ranked l.level.left l.s.now l.at 100
 
 abbrev pub decreases-first : goal.decreases-first
-decreases-first l = 8388608 * l.left + 128 * (length l.s.now - l.p) + 99
+decreases-first l = ranked l.level.left l.s.now l.at 99
 
 abbrev pub decreases-grow : goal.decreases-grow
-decreases-grow l = 8388608 * l.left + 128 * (length l.s.now - l.p) + 88
+decreases-grow l = ranked l.level.left l.s.now l.at 88
 
 abbrev pub decreases-heredoc : goal.decreases-heredoc
-decreases-heredoc l = 8388608 * l.left + 128 * (length l.s.now - l.p) + 94
+decreases-heredoc l = ranked l.level.left l.s.now l.at 94
 
 abbrev pub decreases-interp : goal.decreases-interp
-decreases-interp l = 8388608 * l.left + 128 * (length l.s.now - l.p) + 90
+decreases-interp l = ranked l.level.left l.s.now l.at 90
 
 abbrev pub decreases-item : goal.decreases-item
-decreases-item l = 8388608 * l.left + 128 * (length l.s.now - l.p) + 102
+decreases-item l = ranked l.left l.s.now l.at 102
 
 abbrev pub decreases-laid : goal.decreases-laid
-decreases-laid l = 8388608 * l.left + 128 * (length l.s.now - l.p) + 2 * (43 - l.kind)
+decreases-laid l = ranked l.level.left l.s.now l.at (2 * (43 - l.kind))
 
 abbrev pub decreases-named : goal.decreases-named
-decreases-named l = 8388608 * l.left + 128 * (length l.s.now - l.p) + 101
+decreases-named l = ranked l.left l.s.now l.at 101
 
 abbrev pub decreases-object : goal.decreases-object
-decreases-object l = 8388608 * l.left + 128 * (length l.s.now - l.p) + 94
+decreases-object l = ranked l.level.left l.s.now l.at 94
 
 abbrev pub decreases-part : goal.decreases-part
-decreases-part l = 8388608 * l.left + 128 * (length l.s.now - l.p) + 86
+decreases-part l = ranked l.level.left l.s.now l.at 86
 
 abbrev pub decreases-parts : goal.decreases-parts
-decreases-parts l = 8388608 * l.left + 128 * (length l.s.now - l.p) + 87
+decreases-parts l = ranked l.level.left l.s.now l.at 87
 
 abbrev pub decreases-pieces : goal.decreases-pieces
-decreases-pieces l = 8388608 * l.left + 128 * (length l.s.now - l.p) + 92
+decreases-pieces l = ranked l.level.left l.s.now l.at 92
 
 abbrev pub decreases-prim : goal.decreases-prim
-decreases-prim l = 8388608 * l.left + 128 * (length l.s.now - l.p) + 96
+decreases-prim l = ranked l.level.left l.s.now l.at 96
 
 abbrev pub decreases-quoted : goal.decreases-quoted
-decreases-quoted l = 8388608 * l.left + 128 * (length l.s.now - l.p) + 94
+decreases-quoted l = ranked l.level.left l.s.now l.at 94
 
 abbrev pub decreases-sub : goal.decreases-sub
-decreases-sub l = 8388608 * l.left + 128 * (length l.s.now - l.p) + sub_rank l.class
+decreases-sub l = ranked l.level.left l.s.now l.at (sub_rank l.class)
 
 abbrev pub decreases-term : goal.decreases-term
-decreases-term l = 8388608 * l.left + 128 * (length l.s.now - l.p) + 98
+decreases-term l = ranked l.level.left l.s.now l.at 98
 
 abbrev pub decreases-within : goal.decreases-within
-decreases-within l = 8388608 * l.left + 128 * (length l.s.now - l.p) + 85
+decreases-within l = ranked l.level.left l.s.now l.at 85
 
-abbrev pub invariant-expr-loop-f : goal.invariant-expr-loop-f
-invariant-expr-loop-f l = Turning (Only l.j) l.s (under l.left l.lines an_expression) l.i l.u l.p l.initial.e l.initial.n l.initial.t l.initial.nodes l.nodes l.initial.text l.text l.e l.n l.t × Kept l.k l.initial.keys l.keys × (length l.nodes ≡ length l.initial.nodes) × (length l.text ≡ length l.initial.text)
+abbrev pub invariant-expr-loop-at : goal.invariant-expr-loop-at
+invariant-expr-loop-at l = Turning (Only l.j) l.s (at_level l.level) l.at.records l.at.text l.at.place l.initial.e l.initial.n l.initial.t l.initial.nodes l.nodes l.initial.text l.text l.e l.n l.t × Kept l.at.keys l.initial.keys l.keys × (length l.nodes ≡ length l.initial.nodes) × (length l.text ≡ length l.initial.text)
 
-abbrev pub decreases-expr-loop-f : goal.decreases-expr-loop-f
-decreases-expr-loop-f l = length l.s - l.e
+abbrev pub decreases-expr-loop-at : goal.decreases-expr-loop-at
+decreases-expr-loop-at l = length l.s - l.e
 
-abbrev pub invariant-term-loop-i : goal.invariant-term-loop-i
-invariant-term-loop-i l = Turning Low l.s (under l.left l.lines an_expression) l.i l.u l.p l.initial.e l.initial.n l.initial.t l.initial.nodes l.nodes l.initial.text l.text l.e l.n l.t × Kept l.k l.initial.keys l.keys × (length l.nodes ≡ length l.initial.nodes) × (length l.text ≡ length l.initial.text)
+abbrev pub invariant-term-loop-at : goal.invariant-term-loop-at
+invariant-term-loop-at l = Turning Low l.s (at_level l.level) l.at.records l.at.text l.at.place l.initial.e l.initial.n l.initial.t l.initial.nodes l.nodes l.initial.text l.text l.e l.n l.t × Kept l.at.keys l.initial.keys l.keys × (length l.nodes ≡ length l.initial.nodes) × (length l.text ≡ length l.initial.text)
 
-abbrev pub decreases-term-loop-i : goal.decreases-term-loop-i
-decreases-term-loop-i l = length l.s - l.e
+abbrev pub decreases-term-loop-at : goal.decreases-term-loop-at
+decreases-term-loop-at l = length l.s - l.e
 
-abbrev pub invariant-laid-loop-nodes : goal.invariant-laid-loop-nodes
-invariant-laid-loop-nodes l = Asked l.s l.initial.keys l.i l.u l.k l.p × Laying l.start l.p l.before l.kind × TurnLaids l.s l.left l.lines l.start l.kind l.p l.i l.u l.initial.nodes l.nodes l.initial.text l.text l.pc l.q l.n l.t × Kept l.k l.initial.keys l.keys × (length l.nodes ≡ length l.initial.nodes) × (length l.text ≡ length l.initial.text)
+abbrev pub invariant-laid-loop-level : goal.invariant-laid-loop-level
+invariant-laid-loop-level l = AskedAt l.s l.initial.keys l.at × Laying l.start l.at.place l.before l.kind × TurnLaids l.s l.level.left l.level.lines l.start l.kind l.at.place l.at.records l.at.text l.initial.nodes l.nodes l.initial.text l.text l.pc l.q l.n l.t × Kept l.at.keys l.initial.keys l.keys × (length l.nodes ≡ length l.initial.nodes) × (length l.text ≡ length l.initial.text)
 
-abbrev pub decreases-laid-loop-nodes : goal.decreases-laid-loop-nodes
-decreases-laid-loop-nodes l = 256 * (length l.s - l.q) + (228 - l.pc)
+abbrev pub decreases-laid-loop-level : goal.decreases-laid-loop-level
+decreases-laid-loop-level l = 256 * (length l.s - l.q) + (228 - l.pc)
 
-abbrev pub invariant-parts-loop-at : goal.invariant-parts-loop-at
-invariant-parts-loop-at l = Asked l.s l.initial.keys l.i l.u l.k l.p × Laying l.start l.p l.before 37 × Parting l.s l.left l.lines l.start l.p l.i l.u l.initial.nodes l.nodes l.initial.text l.text l.q l.n l.t × Kept l.k l.initial.keys l.keys × (length l.nodes ≡ length l.initial.nodes) × (length l.text ≡ length l.initial.text)
+abbrev pub invariant-parts-loop-g : goal.invariant-parts-loop-g
+invariant-parts-loop-g l = AskedAt l.s l.initial.keys l.at × Laying l.start l.at.place l.before 37 × Parting l.s l.level.left l.level.lines l.start l.at.place l.at.records l.at.text l.initial.nodes l.nodes l.initial.text l.text l.q l.n l.t × Kept l.at.keys l.initial.keys l.keys × (length l.nodes ≡ length l.initial.nodes) × (length l.text ≡ length l.initial.text)
 
-abbrev pub decreases-parts-loop-at : goal.decreases-parts-loop-at
-decreases-parts-loop-at l = length l.s - l.q
+abbrev pub decreases-parts-loop-g : goal.decreases-parts-loop-g
+decreases-parts-loop-g l = length l.s - l.q
 
-abbrev pub invariant-array-loop-nodes : goal.invariant-array-loop-nodes
-invariant-array-loop-nodes l = Asked l.s l.initial.keys l.i l.u l.k l.p × Arraying l.s l.left l.lines l.p l.i l.u l.initial.nodes l.nodes l.initial.text l.text l.q l.n l.t × Kept l.k l.initial.keys l.keys × (length l.nodes ≡ length l.initial.nodes) × (length l.text ≡ length l.initial.text)
+abbrev pub invariant-array-loop-under : goal.invariant-array-loop-under
+invariant-array-loop-under l = AskedAt l.s l.initial.keys l.at × Arraying l.s l.fn.level.left l.fn.level.lines l.at.place l.at.records l.at.text l.initial.nodes l.nodes l.initial.text l.text l.q l.n l.t × Kept l.at.keys l.initial.keys l.keys × (length l.nodes ≡ length l.initial.nodes) × (length l.text ≡ length l.initial.text)
 
-abbrev pub decreases-array-loop-nodes : goal.decreases-array-loop-nodes
-decreases-array-loop-nodes l = length l.s - l.q
+abbrev pub decreases-array-loop-under : goal.decreases-array-loop-under
+decreases-array-loop-under l = length l.s - l.q
 
 abbrev pub invariant-object-loop-m : goal.invariant-object-loop-m
-invariant-object-loop-m l = TurnObjectTurns l.s l.left l.lines l.i l.u l.p l.k l.initial.nodes l.nodes l.initial.text l.text l.initial.keys l.keys l.q l.n l.t l.top × (length l.nodes ≡ length l.initial.nodes) × (length l.text ≡ length l.initial.text)
+invariant-object-loop-m l = TurnObjectTurns l.s l.fn.level.left l.fn.level.lines l.at.records l.at.text l.at.place l.at.keys l.initial.nodes l.nodes l.initial.text l.text l.initial.keys l.keys l.q l.n l.t l.top × (length l.nodes ≡ length l.initial.nodes) × (length l.text ≡ length l.initial.text)
 
 abbrev pub decreases-object-loop-m : goal.decreases-object-loop-m
 decreases-object-loop-m l = length l.s - l.q
 
 abbrev pub invariant-pieces-loop-q : goal.invariant-pieces-loop-q
-invariant-pieces-loop-q l = Asked l.s l.initial.keys l.i l.u l.k l.p × Texting l.s l.start l.p l.kind l.flag l.plain l.d l.e × Round l.s l.left l.lines l.start l.kind l.flag l.p l.i l.u l.k l.initial.nodes l.nodes l.initial.text l.text l.initial.keys l.keys l.q l.n l.t × (length l.nodes ≡ length l.initial.nodes) × (length l.text ≡ length l.initial.text)
+invariant-pieces-loop-q l = AskedAt l.s l.initial.keys l.at × Texting l.s l.start l.at.place l.kind l.flag (quoted_of l.round) (from_of l.round) (to_of l.round) × Round l.s l.level.left l.level.lines l.start l.kind l.flag l.at.place l.at.records l.at.text l.at.keys l.initial.nodes l.nodes l.initial.text l.text l.initial.keys l.keys l.q l.n l.t × (length l.nodes ≡ length l.initial.nodes) × (length l.text ≡ length l.initial.text)
 
 abbrev pub decreases-pieces-loop-q : goal.decreases-pieces-loop-q
 decreases-pieces-loop-q l = length l.s - l.q
