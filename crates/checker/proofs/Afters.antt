@@ -8,7 +8,7 @@ use lib.ListN.{drop}
 use lib.Dec.{eqb}
 use borrow.Author.Tests.{eqb-true}
 use Rattle.lexis.specs.Bytes.{byte_at, begins, stands}
-use Rattle.lexis.specs.Trivia.{Stopping, gap_to, stop_at, stop_to, Stopped}
+use Rattle.lexis.specs.Trivia.{gap_to, stop_at}
 use Rattle.lexis.specs.Trivia as trivia
 use Rattle.lexis.specs.RunLaws.{clash, and_left, stands_one, stands_two, stands_inside}
 use Rattle.grammar.specs.Said.{Went, went, Moved}

@@ -760,7 +760,3 @@ module _ (s t : List ℕ) (i left : ℕ) (lines : Bool) where
     -- the row behind a child
     pub plain_up : {j' : ℕ} → j < i → j' ≡ get_or m j 0 → (j < j') × (j' ≤ i)
     plain_up l e = let y = next_of m i w.js j w.chain l in (omega (arith, y.up, e), omega (arith, y.far, e))
-
-    -- a child that is passed is further on
-    pub do_up : {K' D' : List ℕ} {p : ℕ} {r : Passed} → PassedBy s t i m D D' K K' j n x.class left lines p r → r.good ≡ true → (j < r.next) × (r.next ≤ i)
-    do_up h z = let y = next_of m i w.js j w.chain (h.inside z) in (omega (arith, y.up, h.next z), omega (arith, y.far, h.next z))

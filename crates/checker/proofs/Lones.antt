@@ -1,5 +1,5 @@
 -- Whether a key stands alone, with what was found of comments behind earlier keys.
-use Prim.Native.Nat.{ℕ, zero, suc, ◌+◌, ◌-◌, ◌≤◌, ◌<◌}
+use Prim.Native.Nat.{ℕ, zero, suc, ◌+◌, ◌-◌, ◌≤◌, ◌<◌, max}
 use mathlib.Core.Path.{◌≡◌, refl, sym, ap, subst, ◌∙◌}
 use mathlib.Core.List.{List, [], ◌∷◌}
 use mathlib.Core.Bool.{Bool, true, false, cond, not}
@@ -9,10 +9,11 @@ use lib.ListN.{length, drop}
 use lib.Dec.{eqb, leb}
 use lib.Seq.{drop-drop}
 use borrow.Author.Tests.{eqb-true, eqb-false, eq-eqb, leb-true, leb-false}
-use Rattle.lexis.specs.Bytes.{byte_at, is_space, stands, up_to, Byte}
+use Rattle.lexis.specs.Bytes.{byte_at, is_space, stands, up_to}
 use Rattle.lexis.specs.Trivia.{Gap, none, closes, block, item, ends_at, open_at, placed, gap_to}
 use Rattle.lexis.specs.Operator.{equals_to}
-use Rattle.lexis.specs.RunLaws.{clash, front, inside, and_left, and_right, stands_one, stands_two, stands_inside, reach, reach_on, reach_stop, reach_end}
+use Rattle.lexis.specs.RunLaws.{clash, front, and_left, and_right, stands_one, stands_two, stands_inside, reach, reach_on, reach_stop, reach_end}
+use Rattle.lexis.proofs.Runs.{past}
 use Rattle.lexis.proofs.Trivias.{block_found, block_endless, item_space, item_block, gap_stop, gap_on}
 use Rattle.checker.specs.declared.lone.Memo.{Memo}
 use Rattle.checker.specs.declared.lone.Lone.{Lone}
@@ -103,32 +104,25 @@ pub record Blank (s : List ℕ) (p i : ℕ) : Type 0 where
   pub same : gap_to false s i ≡ gap_to false s p
   pub are : (x : ℕ) → p ≤ x → x < i → is_space (byte_at s x) ≡ true
 
-pub blank_start : (s : List ℕ) (p : ℕ) → Blank s p p
-blank_start s p = record { low = omega arith; high = omega arith; same = refl; are = λ x l h. absurd (omega arith) }
-
-module _ {s : List ℕ} {p i : ℕ} (h : Blank s p i) {b : ℕ} (at : Byte s i b) {r : Bool} (is : r ≡ is_space b) where
-  blank : is_space (byte_at s i) ≡ r
-  blank = ap is_space (sym at.is) ∙ sym is
-
-  pub blank_inside : r ≡ true → i < length s
-  blank_inside e = inside is_space s i refl (blank ∙ e)
-
-  pub blank_on : r ≡ true → Blank s p (i + 1)
-  blank_on e =
-      let l = blank_inside e in
-      record {
-        low = omega (arith, h.low);
-        high = omega (arith, h.low);
-        same = past_space s i l (blank ∙ e) ∙ h.same;
-        are = λ x a c. by x a c (eqb x i) refl;
-      }
+module _ {s : List ℕ} {p i : ℕ} (h : Blank s p i) where
+  pub blank_on : i < length s → is_space (byte_at s i) ≡ true → Blank s p (i + 1)
+  blank_on l e = record {
+    low = omega (arith, h.low);
+    high = omega (arith, h.low);
+    same = past_space s i l e ∙ h.same;
+    are = λ x a c. by x a c (eqb x i) refl;
+  }
     where
       by : (x : ℕ) → p ≤ x → x < i + 1 → (q : Bool) → eqb x i ≡ q → is_space (byte_at s x) ≡ true
-      by x a c true f = ap (λ (y : ℕ). is_space (byte_at s y)) (eqb-true x i f) ∙ blank ∙ e
+      by x a c true f = ap (λ (y : ℕ). is_space (byte_at s y)) (eqb-true x i f) ∙ e
       by x a c false f = let n = eqb-false x i f in h.are x a (omega (arith, n))
 
-  pub blank_ends : r ≡ false → SpacesTo s p i
-  blank_ends e = record { low = h.low; high = h.high; same = h.same; are = h.are; ends = blank ∙ e }
+  pub blank_ends : is_space (byte_at s i) ≡ false → SpacesTo s p i
+  blank_ends e = record { low = h.low; high = h.high; same = h.same; are = h.are; ends = e }
+
+-- the spaces may go on to the end of the source
+pub blank_end : {s : List ℕ} {p i : ℕ} → Blank s p i → length s ≤ i → {r : ℕ} → r ≡ max p (length s) → SpacesTo s p r
+blank_end {s} {p} {i} h l {r} e = subst (SpacesTo s p) (let f : i ≡ r = omega (arith, h.low, h.high) in f) (blank_ends h (past is_space s i refl l))
 
 -- ---- the end of a comment
 
@@ -146,9 +140,6 @@ module _ (s : List ℕ) (p i : ℕ) where
 
 abbrev pub memo : ℕ → ℕ → Bool → Memo
 memo a b y = record { from = a; to = b; yes = y }
-
-pub covers_no : {s : List ℕ} {c : ℕ} {m : Memo} → Covered s c m false
-covers_no = record { low = λ z. clash (sym z); high = λ z. clash (sym z); plain = λ z. clash (sym z) }
 
 not_is : (b : Bool) → not b ≡ true → b ≡ false
 not_is true e = sym e
@@ -177,9 +168,6 @@ pub record Trail (s : List ℕ) (c at : ℕ) : Type 0 where
   pub same : signed s c ≡ signed s at
   pub told : (x : ℕ) → stands (47 ∷ 42 ∷ []) s x ≡ true → ¬ (byte_at s (x + 2) ≡ 47) → c ≤ x → x < at → signed s x ≡ signed s at
 
-pub trail_start : (s : List ℕ) (c : ℕ) → stands (47 ∷ 42 ∷ []) s c ≡ true → Trail s c c
-trail_start s c e = record { low = omega arith; opens = e; same = refl; told = λ x f n l h. absurd (omega arith) }
-
 module _ {s : List ℕ} {c at : ℕ} (t : Trail s c at) where
   pub trail_inside : at + 2 ≤ length s
   trail_inside = omega (arith, stands_inside (47 ∷ 42 ∷ []) s at t.opens)
@@ -207,9 +195,6 @@ module _ {s : List ℕ} {c at : ℕ} (t : Trail s c at) where
     module _ (f : ¬ (e ≡ length s)) where
       shut : stands (42 ∷ 47 ∷ []) s e ≡ true
       shut = z.here (omega (arith, z.high, f))
-
-      pub trail_room : e + 2 ≤ length s
-      trail_room = omega (arith, stands_inside (42 ∷ 47 ∷ []) s e shut)
 
     module _ (f : ¬ (e ≡ length s)) {q : ℕ} (p : SpacesTo s (e + 2) q) where
       -- behind the comment, from each `/*` in it

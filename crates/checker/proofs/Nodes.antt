@@ -1,5 +1,5 @@
 -- The rule at a row, over the children that its counts give.
-use Prim.Native.Nat.{ℕ, ◌+◌, ◌%◌, ◌≤◌, ◌<◌}
+use Prim.Native.Nat.{ℕ, ◌+◌, ◌%◌, ◌≤◌}
 use mathlib.Core.Path.{◌≡◌, refl, sym, ap, subst, ◌∙◌}
 use mathlib.Core.Bool.{Bool, true, false}
 use mathlib.Core.List.{List, [], ◌∷◌, map}
@@ -39,9 +39,6 @@ not_t true e h = clash e
 not_t false e h = h
 
 module _ {s t : List ℕ} {i l : ℕ} {lines : Bool} where
-  pub left_no : ((row_at t l).start ≡ (row_at t i).start → (row_at t l).start < (row_at t l).end → tight_of (row_at t i).kind ≤ hold_of (row_at t l).kind → T (has (kinds_by 0) (row_at t l).kind) → ⊥) → LeftAt s t i l lines false
-  left_no f = record { start = λ z. clash (sym z); follows = λ z. clash (sym z); holds = λ z. clash (sym z); kind = λ z. clash (sym z); no = λ z a b c d e. f a b d e }
-
   pub left_by : {x : ℕ} {b : Bool} → b ≡ has (kinds_by 0) (row_at t l).kind → b ≡ true → (row_at t l).start ≡ (row_at t i).start → tight_of (row_at t i).kind ≤ hold_of (row_at t l).kind → {p : ℕ} → p ≡ (row_at t l).end → Follow s p lines x → LeftAt s t i l lines (eqb x (row_at t i).kind)
   left_by {x} e y a h {p} q f = record {
     start = λ z. a;

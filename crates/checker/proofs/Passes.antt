@@ -50,6 +50,10 @@ module _ {t : List ℕ} {j at n w : ℕ} where
   pub suits_by : {r : Bool} → r ≡ has (kinds_by w) (row_at t j).kind → (row_at t j).start ≡ at → n < tight_of (row_at t j).kind → SuitsAt t j at n w r
   suits_by e a b = record { start = λ z. a; bound = λ z. b; kind = λ z. is_t _ (sym e ∙ z); no = λ z c d f g. not_t _ (sym e ∙ z) g }
 
+  -- it binds too loosely
+  pub suits_loose : (n < tight_of (row_at t j).kind → ⊥) → SuitsAt t j at n w false
+  suits_loose h = record { start = λ z. clash (sym z); bound = λ z. clash (sym z); kind = λ z. clash (sym z); no = λ z c d f g. h f }
+
 -- ---- its key
 
 or_swap : (a b : Bool) → (a || b) ≡ (b || a)

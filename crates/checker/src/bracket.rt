@@ -1,5 +1,5 @@
 // Expressions between brackets, gone through with no program: parentheses, an index and an interpolation.
-ghost use Rattle.std.specs.Prelude.{◌≡◌, cond, ◌+◌, ◌*◌, ◌≤◌, length};
+ghost use Rattle.std.specs.Prelude.{◌≡◌, cond, ◌+◌, ◌≤◌};
 ghost use Rattle.grammar.specs.Layouts.{interpolation_lay};
 ghost use Rattle.checker.specs.Lay.{Seating, Direct};
 ghost use Rattle.checker.specs.Rest.{StepBy, RestBy, TailBy, inside_lay, enclosed_lay, stripped_lay};
@@ -57,7 +57,6 @@ fn flagged(left: bool, right: bool) -> usize
 
 // Behind the expression of an interpolation, which ends at p: perhaps `~`, and `}`.
 fn stripped(site: Site, j: usize, p: usize, left: bool) -> bool
-    requires { 7 * site.i + 7 ≤ length site.table.now }
     ensures { TailBy site.entry.s.now site.entry.table.now site.entry.i (stripped_lay (cond left 1 0)) j p result }
 {
     let Ok(at) = space(site.s, p, true) else {

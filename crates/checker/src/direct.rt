@@ -47,7 +47,7 @@ pub fn operator(site: Site, depths: &mut [u8], j: usize, e: usize) -> bool
     let Ok(w) = space(site.s, e, site.lines()) else {
         return false;
     };
-    let bound = tight(site.table[7 * site.i]) as usize;
+    let bound = usize::from(tight(site.table[7 * site.i]));
     if !site.kid(depths, j, w, bound, Want::Expression, site.own) {
         return false;
     }

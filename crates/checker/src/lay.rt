@@ -1,25 +1,24 @@
 // A layout, laid over the children of a node by its program.
-ghost use Rattle.std.specs.Prelude.{◌+◌, ◌*◌, ◌/◌, ◌%◌, ◌≤◌, eqb, length};
+ghost use Rattle.std.specs.Prelude.{◌/◌, ◌%◌, eqb};
 ghost use Rattle.checker.specs.Lay.{EndsAt, Itemless, LaidBy};
 
 use crate::moves::go;
 use crate::pass::child_at;
 use crate::program::{Instr, begin, instr};
-use crate::rows::wide;
+use crate::row::Spot;
 use crate::site::Site;
 
-// Whether the i-th row ends at q with a flag, and no child of it is left.
-pub fn ends(table: &[u16], i: usize, j: usize, q: usize, flag: usize) -> bool
-    requires { 7 * i + 7 ≤ length table.now }
-    ensures { EndsAt table.now i j q flag result }
+// Whether the row ends at q with a flag, and no child of it is left.
+pub fn ends(spot: Spot, j: usize, q: usize, flag: usize) -> bool
+    ensures { EndsAt spot.entry.table.now spot.entry.i j q flag result }
 {
-    if j != i {
+    if j != spot.i {
         return false;
     }
-    if q != wide(table[7 * i + 3]) {
+    if q != spot.end() {
         return false;
     }
-    flag == wide(table[7 * i + 1])
+    flag == spot.flag()
 }
 
 // Whether the layout of the row's kind, which has no items, goes from p over the children from the row `first` on, and ends where the row does.

@@ -6,6 +6,7 @@ ghost use Rattle.checker.specs.Told.{Told};
 
 use crate::node::node;
 use crate::program::fits;
+use crate::row::Spot;
 use crate::rows::wide;
 use crate::text::columns;
 use grammar::kinds::Limit;
@@ -106,7 +107,7 @@ fn walk(
     depths[n - 1] = TOP;
     let mut u = text.len();
     for i in (0..n).rev() {
-        let Some(before) = columns(table, i, u) else {
+        let Some(before) = columns(Spot { table, i }, u) else {
             return false;
         };
         if !node(source, text, table, i, marks, depths, keys, told) {

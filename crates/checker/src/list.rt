@@ -1,5 +1,5 @@
 // Arrays and the arguments of calls, gone through with no program: elements with commas between them, up to a closer.
-ghost use Rattle.std.specs.Prelude.{[], ◌∷◌, ◌+◌, ◌*◌, ◌≤◌, length};
+ghost use Rattle.std.specs.Prelude.{[], ◌∷◌, ◌≤◌};
 ghost use Rattle.engine.specs.Layout.{move};
 ghost use Rattle.grammar.specs.Layouts.{opening};
 ghost use Rattle.checker.specs.Lay.{Direct};
@@ -17,7 +17,7 @@ const CALL: u8 = 41;
 
 // Behind the last element and its trivia, where no comma stands: the closer.
 fn last(site: Site, j: usize, at: usize, closer: u8) -> bool
-    requires { (7 * site.i + 7 ≤ length site.table.now) × Closer closer × After site.s.now at }
+    requires { Closer closer × After site.s.now at }
     ensures { LastBy site.entry.s.now site.entry.table.now site.entry.i closer j at result }
 {
     let c = mark_end(site.s, at, closer);

@@ -1,5 +1,5 @@
 // A list for, gone through with no program: one or two names, a collection, a value, and perhaps a condition.
-ghost use Rattle.std.specs.Prelude.{◌+◌, ◌*◌, ◌≤◌, length};
+ghost use Rattle.std.specs.Prelude.{◌≤◌};
 ghost use Rattle.grammar.specs.Layouts.{filter_lay, list_for_lay};
 ghost use Rattle.checker.specs.Lay.{Seating, Direct};
 ghost use Rattle.checker.specs.Rest.{StepBy, RestBy};
@@ -74,7 +74,6 @@ fn value(site: Site, depths: &mut [u8], j: usize, p: usize) -> bool
 
 // The closer at a place, wherever its trivia starts.
 fn shut(site: Site, j: usize, at: usize) -> bool
-    requires { 7 * site.i + 7 ≤ length site.table.now }
     ensures { ShutBy site.entry.s.now site.entry.table.now site.entry.i 93 j at result }
 {
     let e = mark_end(site.s, at, 93);

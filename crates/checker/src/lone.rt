@@ -25,11 +25,12 @@ pub struct Lone {
 fn spaces(s: &[u8], p: usize) -> usize
     ensures { SpacesTo s.now p result }
 {
-    let mut i = p;
-    while is_space(byte_at(s, i)) {
-        i += 1;
+    for i in p..s.len() {
+        if !is_space(byte_at(s, i)) {
+            return i;
+        }
     }
-    i
+    p.max(s.len())
 }
 
 // The first `*/` from p on; the source's length where there is none.
@@ -38,7 +39,7 @@ fn closer(s: &[u8], p: usize) -> usize
     ensures { CloserAt s.now p result }
 {
     for i in p..s.len() {
-        if two_at(s, i, 42, 47) {
+        if two_at(s, i, b'*', b'/') {
             return i;
         }
     }
@@ -56,7 +57,7 @@ fn covers(s: &[u8], c: usize, memo: Memo) -> bool
     if memo.to < c + 2 {
         return false;
     }
-    !one_at(s, c + 2, 47)
+    !one_at(s, c + 2, b'/')
 }
 
 // The one that tells of more to come.
@@ -92,7 +93,7 @@ fn behind(s: &[u8], c: usize, memo: Memo) -> Lone
             };
         }
         let q = spaces(s, e + 2);
-        if !two_at(s, q, 47, 42) {
+        if !two_at(s, q, b'/', b'*') {
             let yes = signs(s, q);
             let new = Memo {
                 from: c + 2,
@@ -115,7 +116,7 @@ pub fn alone(s: &[u8], k: usize, memo: Memo) -> Lone
     ensures { Behind s.now k result }
 {
     let q = spaces(s, k);
-    if two_at(s, q, 47, 42) {
+    if two_at(s, q, b'/', b'*') {
         return behind(s, q, memo);
     }
     let yes = signs(s, q);

@@ -14,6 +14,7 @@ use crate::layout::{growth, layout};
 use crate::object::object;
 use crate::precedence::groups;
 use crate::program::fits;
+use crate::row::Spot;
 use crate::rows::wide;
 use crate::single::single;
 use crate::site::Site;
@@ -72,7 +73,7 @@ fn heredoc(site: Site, text: &[u8], depths: &mut [u8], first: usize) -> bool
 // Where the l-th row may be the left operand of the row, which is an operator, a conditional or a traversal: the end of the binary operator behind it, or its own end
 // where none stands there.
 fn left_at(site: Site, l: usize) -> Option<usize>
-    requires { (7 * site.i + 7 ≤ length site.table.now) × (7 * l + 7 ≤ length site.table.now) }
+    requires { 7 * l + 7 ≤ length site.table.now }
     ensures { LeftTo site.entry.s.now site.entry.table.now site.entry.i l (eqb (site.entry.own % 2) 1) (left_from result) }
 {
     let start = site.table[7 * l + 2];
@@ -84,7 +85,7 @@ fn left_at(site: Site, l: usize) -> Option<usize>
     }
     let kind = site.table[7 * site.i];
     let operand = site.table[7 * l];
-    if !groups(tight(kind) as usize, hold(operand) as usize, false) {
+    if !groups(usize::from(tight(kind)), usize::from(hold(operand)), false) {
         return None;
     }
     if !fits(Want::Expression, operand) {
@@ -163,7 +164,11 @@ fn ruled(
         if first != site.i {
             return false;
         }
-        return string(site.s, text, site.table, site.i);
+        let spot = Spot {
+            table: site.table,
+            i: site.i,
+        };
+        return string(site.s, text, spot);
     }
     if kind == Kind::TEMPLATE {
         return template(site, text, depths, first);
@@ -194,7 +199,7 @@ pub fn node(
     let own = depths[i];
     // most rows have no children and are told by one look
     if table[7 * i + 4] == 1 {
-        if let Some(yes) = single(s, table, i, told, multi_line(own)) {
+        if let Some(yes) = single(s, Spot { table, i }, told, multi_line(own)) {
             return yes;
         }
     }

@@ -7,6 +7,7 @@ ghost use Rattle.checker.specs.Told.{Told, Telling};
 use crate::lone::{Memo, alone};
 use crate::moves::{Onward, after};
 use crate::pass::pass;
+use crate::row::Spot;
 use crate::site::Site;
 use crate::told::tell;
 use grammar::moves::space;
@@ -55,7 +56,11 @@ pub fn object(
         let Some(c) = pass(site, depths, keys, j, n, ITEMS, at, t.mark, key.yes) else {
             return false;
         };
-        tell(site.table, told, j, at, t.end, key.yes);
+        let item = Spot {
+            table: site.table,
+            i: j,
+        };
+        tell(item, told, at, t.end, key.yes);
         at = match after(site.s, c.end) {
             Some(Onward::Next(q)) => q,
             Some(Onward::Closed(q)) => return site.ends(c.next, q, 0),

@@ -1,5 +1,5 @@
 // A child of a node, in its place.
-ghost use Rattle.std.specs.Prelude.{◌≡◌, cond, ◌+◌, ◌*◌, ◌/◌, ◌%◌, ◌≤◌, eqb, length};
+ghost use Rattle.std.specs.Prelude.{◌≡◌, cond, ◌+◌, ◌/◌, ◌%◌, ◌≤◌, eqb};
 ghost use Rattle.index.specs.Mark.{mark_at};
 ghost use Rattle.grammar.specs.Moves.{lone};
 ghost use Rattle.grammar.specs.Said.{wanted};
@@ -8,6 +8,7 @@ ghost use Rattle.checker.specs.Lay.{SuitsAt, Seating, Meeting, met_from, MetAt, 
 
 use crate::precedence::groups;
 use crate::program::{Want, child, seat, sits};
+use crate::row::Spot;
 use crate::rows::wide;
 use crate::site::Site;
 use index::{find, insert};
@@ -23,20 +24,19 @@ pub struct Passed {
     pub keys: usize,
 }
 
-// Whether the j-th row starts at a place, is not empty, binds tighter than a bound and is of a kind that is wanted.
-pub fn suits(table: &[u16], j: usize, at: usize, bound: usize, want: Want) -> bool
-    requires { 7 * j + 7 ≤ length table.now }
-    ensures { SuitsAt table.now j at bound (wanted want) result }
+// Whether the row starts at a place, is not empty, binds tighter than a bound and is of a kind that is wanted.
+pub fn suits(spot: Spot, at: usize, bound: usize, want: Want) -> bool
+    ensures { SuitsAt spot.entry.table.now spot.entry.i at bound (wanted want) result }
 {
-    let start = wide(table[7 * j + 2]);
+    let start = spot.start();
     if start != at {
         return false;
     }
-    if wide(table[7 * j + 3]) <= start {
+    if spot.end() <= start {
         return false;
     }
-    let kind = table[7 * j];
-    let x = seat(kind) as usize;
+    let kind = spot.kind();
+    let x = usize::from(seat(kind));
     if !groups(bound, x % 16, true) {
         return false;
     }
@@ -113,7 +113,11 @@ pub fn pass(
         return None;
     }
     let y = child(class, site.left(), site.lines());
-    if !suits(site.table, j, at, y.bound, y.want) {
+    let row = Spot {
+        table: site.table,
+        i: j,
+    };
+    if !suits(row, at, y.bound, y.want) {
         return None;
     }
     let kept = meet(site.s, keys, n, site.table[7 * j + 2], m, y.want, alone)?;

@@ -171,5 +171,5 @@ pub fn sits(want: Want, seat: usize) -> bool
 pub fn fits(want: Want, kind: u16) -> bool
     ensures { result ≡ has (kinds_by (wanted want)) kind }
 {
-    sits(want, seat(kind) as usize)
+    sits(want, usize::from(seat(kind)))
 }

@@ -5,5 +5,5 @@ ghost use Rattle.std.specs.Prelude.{◌≡◌, ◌≤◌};
 pub fn wide(x: u16) -> usize
     ensures { (result ≡ x) × (result ≤ 65535) }
 {
-    x as usize
+    usize::from(x)
 }

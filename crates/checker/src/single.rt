@@ -1,11 +1,11 @@
 // A row with no children that is told by one look: a word or a number alone, an attribute or a name.
-ghost use Rattle.std.specs.Prelude.{◌≡◌, true, false, ◌+◌, ◌*◌, ◌≤◌, length};
+ghost use Rattle.std.specs.Prelude.{◌≡◌, true};
 ghost use Rattle.checker.specs.Leaf.{read_as};
 ghost use Rattle.checker.specs.Node.{Token, TokenAt, look_from, SingleBy};
 ghost use Rattle.checker.specs.Told.{Telling};
 
 use crate::bare::{attribute, name};
-use crate::rows::wide;
+use crate::row::Spot;
 use crate::told::keyed;
 use grammar::kinds::Kind;
 use grammar::picks::head_at;
@@ -30,34 +30,33 @@ fn read_as(kind: u16) -> u16
     }
 }
 
-// Whether the i-th row is read as a kind, ends at a place and has the flag 0.
-fn is_alone(table: &[u16], i: usize, kind: u16, end: usize) -> bool
-    requires { 7 * i + 7 ≤ length table.now }
-    ensures { TokenAt table.now i kind end result }
+// Whether the row is read as a kind, ends at a place and has the flag 0.
+fn is_alone(spot: Spot, kind: u16, end: usize) -> bool
+    ensures { TokenAt spot.entry.table.now spot.entry.i kind end result }
 {
-    if read_as(table[7 * i]) != kind {
+    if read_as(spot.kind()) != kind {
         return false;
     }
-    if wide(table[7 * i + 3]) != end {
+    if spot.end() != end {
         return false;
     }
-    table[7 * i + 1] == 0
+    spot.flag() == 0
 }
 
-// The rule at the i-th row, which has no children, where one look tells it: a number with a sign is left to others.
-pub fn single(s: &[u8], table: &[u16], i: usize, told: &[u16], lines: bool) -> Option<bool>
-    requires { (7 * i + 7 ≤ length table.now) × Telling s.now table.now i told.now }
-    ensures { SingleBy s.now table.now i lines (look_from result) }
+// The rule at the row, which has no children, where one look tells it: a number with a sign is left to others.
+pub fn single(s: &[u8], spot: Spot, told: &[u16], lines: bool) -> Option<bool>
+    requires { Telling s.now spot.table.now spot.i told.now }
+    ensures { SingleBy s.now spot.entry.table.now spot.entry.i lines (look_from result) }
 {
-    let kind = table[7 * i];
-    let start = wide(table[7 * i + 2]);
+    let kind = spot.kind();
+    let start = spot.start();
     if kind == Kind::ATTRIBUTE {
-        return Some(attribute(s, table, i, i, start));
+        return Some(attribute(s, spot, spot.i, start));
     }
     if kind == Kind::NAME {
-        return Some(name(s, table, i, i, start));
+        return Some(name(s, spot, spot.i, start));
     }
-    if keyed(s, table, i, told, lines) {
+    if keyed(s, spot, told, lines) {
         return Some(true);
     }
     if !is_token(kind) {
@@ -67,5 +66,5 @@ pub fn single(s: &[u8], table: &[u16], i: usize, told: &[u16], lines: bool) -> O
     if h.end == start {
         return None;
     }
-    Some(is_alone(table, i, h.kind, h.end))
+    Some(is_alone(spot, h.kind, h.end))
 }

@@ -6,6 +6,7 @@ ghost use Rattle.checker.specs.Lay.{EndsAt, Seating, KidBy};
 
 use crate::lay::ends;
 use crate::pass::suits;
+use crate::row::Spot;
 use crate::rows::wide;
 use grammar::program::Want;
 
@@ -17,12 +18,12 @@ pub struct Site<'a> {
     pub i: usize,
     pub marks: &'a [u16],
     pub own: u8,
+    ghost within: { 7 * i + 7 ≤ length table.now },
 }
 
 impl<'a> Site<'a> {
     // Where the row starts.
     pub fn start(self) -> usize
-        requires { 7 * self.i + 7 ≤ length self.table.now }
         ensures { (result ≡ (row_at self.entry.table.now self.entry.i).start) × (result ≤ 65535) }
     {
         wide(self.table[7 * self.i + 2])
@@ -48,7 +49,7 @@ impl<'a> Site<'a> {
     pub fn left(self) -> usize
         ensures { (result ≡ self.entry.own / 2) × (result ≤ 127) }
     {
-        (self.own / 2) as usize
+        usize::from(self.own / 2)
     }
 
     // Whether a line end may stand.
@@ -68,10 +69,13 @@ impl<'a> Site<'a> {
 
     // Whether the row ends at q with a flag, and no child of it is left.
     pub fn ends(self, j: usize, q: usize, flag: usize) -> bool
-        requires { 7 * self.i + 7 ≤ length self.table.now }
         ensures { EndsAt self.entry.table.now self.entry.i j q flag result }
     {
-        ends(self.table, self.i, j, q, flag)
+        let spot = Spot {
+            table: self.table,
+            i: self.i,
+        };
+        ends(spot, j, q, flag)
     }
 
     // Whether the j-th row suits its place as a child that is no item. Then its depth is put down.
@@ -90,7 +94,11 @@ impl<'a> Site<'a> {
         if j == self.i {
             return false;
         }
-        if !suits(self.table, j, at, bound, want) {
+        let row = Spot {
+            table: self.table,
+            i: j,
+        };
+        if !suits(row, at, bound, want) {
             return false;
         }
         depths[j] = depth;

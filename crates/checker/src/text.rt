@@ -1,13 +1,12 @@
 // The text numbers of a record, and its text.
-ghost use Rattle.std.specs.Prelude.{◌≡◌, ◌+◌, ◌*◌, ◌≤◌, length};
+ghost use Rattle.std.specs.Prelude.{◌≡◌};
 ghost use Rattle.lexis.specs.Bytes.{stands};
 ghost use Rattle.lexis.specs.String.{unpacked, mode_from};
 ghost use Rattle.checker.specs.Rows.{row_at};
 ghost use Rattle.checker.specs.Leaf.{used_from, Columns, PieceAt, StringAt};
 ghost use Rattle.checker.specs.LeafMore.{used_by, Spells, Told};
 
-use crate::row::{Row, row_at};
-use crate::rows::wide;
+use crate::row::{Row, Spot};
 use lexis::bytes::{one_at, two_at};
 use lexis::string::{Round, Run, Why, run_at, unit_at};
 
@@ -22,14 +21,13 @@ fn own(flag: usize, from: usize, length: usize, a: usize, b: usize, u: usize) ->
     (from == before).then_some(before)
 }
 
-// How many bytes of text are used before the i-th record, u being used up to it and with it; nothing where its text numbers are wrong.
-pub fn columns(table: &[u16], i: usize, u: usize) -> Option<usize>
-    requires { 7 * i + 7 ≤ length table.now }
-    ensures { Columns (row_at table.now i) u (used_from result) }
+// How many bytes of text are used before the record, u being used up to it and with it; nothing where its text numbers are wrong.
+pub fn columns(spot: Spot, u: usize) -> Option<usize>
+    ensures { Columns (row_at spot.entry.table.now spot.entry.i) u (used_from result) }
 {
-    match table[7 * i] {
+    match spot.kind() {
         6 => {
-            let r = row_at(table, i);
+            let r = spot.row();
             let n = r.end.saturating_sub(r.start);
             own(
                 r.flag,
@@ -41,11 +39,11 @@ pub fn columns(table: &[u16], i: usize, u: usize) -> Option<usize>
             )
         }
         9 => {
-            let r = row_at(table, i);
+            let r = spot.row();
             let n = r.end.saturating_sub(r.start);
             own(r.flag, r.from, r.length, r.start, n, u)
         }
-        _ => own(0, wide(table[7 * i + 5]), wide(table[7 * i + 6]), 0, 0, u),
+        _ => own(0, spot.from(), spot.length(), 0, 0, u),
     }
 }
 
@@ -98,12 +96,11 @@ fn told(s: &[u8], text: &[u8], p: usize, plain: bool, t: Run, r: Row) -> bool
     spells(s, p, t.end, plain, text, r.from)
 }
 
-// Whether the i-th record is a piece of the text round it, and its text stands where it says.
-pub fn piece(s: &[u8], text: &[u8], table: &[u16], i: usize, round: Round) -> bool
-    requires { 7 * i + 7 ≤ length table.now }
-    ensures { PieceAt (mode_from s.now round) s.now text.now (row_at table.now i) result }
+// Whether the record is a piece of the text round it, and its text stands where it says.
+pub fn piece(s: &[u8], text: &[u8], spot: Spot, round: Round) -> bool
+    ensures { PieceAt (mode_from s.now round) s.now text.now (row_at spot.entry.table.now spot.entry.i) result }
 {
-    let r = row_at(table, i);
+    let r = spot.row();
     if two_at(s, r.start, 36, 123) {
         return false;
     }
@@ -117,12 +114,12 @@ pub fn piece(s: &[u8], text: &[u8], table: &[u16], i: usize, round: Round) -> bo
     told(s, text, r.start, round.is_quoted(), t, r)
 }
 
-// Whether the i-th record, of a string, is the string at its start, and its text stands where it says.
-pub fn string(s: &[u8], text: &[u8], table: &[u16], i: usize) -> bool
-    requires { (7 * i + 7 ≤ length table.now) × ((row_at table.now i).kind ≡ 6) }
-    ensures { StringAt s.now text.now (row_at table.now i) result }
+// Whether the record, of a string, is the string at its start, and its text stands where it says.
+pub fn string(s: &[u8], text: &[u8], spot: Spot) -> bool
+    requires { (row_at spot.table.now spot.i).kind ≡ 6 }
+    ensures { StringAt s.now text.now (row_at spot.entry.table.now spot.entry.i) result }
 {
-    let r = row_at(table, i);
+    let r = spot.row();
     if !one_at(s, r.start, 34) {
         return false;
     }

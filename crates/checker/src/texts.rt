@@ -1,10 +1,10 @@
 // The text of a template or heredoc, over its pieces and interpolations.
-ghost use Rattle.std.specs.Prelude.{◌+◌, ◌*◌, ◌≤◌, length};
+ghost use Rattle.std.specs.Prelude.{◌≤◌};
 ghost use Rattle.lexis.specs.Heredoc.{part};
 ghost use Rattle.lexis.specs.String.{quoted_of, from_of, to_of};
 ghost use Rattle.checker.specs.Texts.{LineEnds, ClosesBy, ShutsAt, OpensAt, StrandAt, Texting, TextBy};
 
-use crate::rows::wide;
+use crate::row::Spot;
 use crate::site::Site;
 use crate::text::piece;
 use grammar::kinds::Kind;
@@ -67,21 +67,20 @@ fn opens(s: &[u8], q: usize, round: Round) -> bool
     r.why == Why::Interpolation
 }
 
-// Whether the j-th row is a piece or an interpolation of the text at q.
-fn strand(s: &[u8], text: &[u8], table: &[u16], j: usize, q: usize, round: Round) -> bool
-    requires { 7 * j + 7 ≤ length table.now }
-    ensures { StrandAt s.now text.now table.now j q (quoted_of round) (from_of round) (to_of round) result }
+// Whether the row is a piece or an interpolation of the text at q.
+fn strand(s: &[u8], text: &[u8], spot: Spot, q: usize, round: Round) -> bool
+    ensures { StrandAt s.now text.now spot.entry.table.now spot.entry.i q (quoted_of round) (from_of round) (to_of round) result }
 {
-    let start = wide(table[7 * j + 2]);
+    let start = spot.start();
     if start != q {
         return false;
     }
-    if wide(table[7 * j + 3]) <= start {
+    if spot.end() <= start {
         return false;
     }
-    let kind = table[7 * j];
+    let kind = spot.kind();
     if kind == Kind::PIECE {
-        return piece(s, text, table, j, round);
+        return piece(s, text, spot, round);
     }
     if kind != Kind::INTERPOLATION {
         return false;
@@ -107,7 +106,11 @@ pub fn texts(
         if j == site.i {
             return shuts(site.s, q, round, site.end(site.i));
         }
-        if !strand(site.s, text, site.table, j, q, round) {
+        let child = Spot {
+            table: site.table,
+            i: j,
+        };
+        if !strand(site.s, text, child, q, round) {
             return false;
         }
         depths[j] = site.own;

@@ -160,8 +160,8 @@ fn comma(s: &[u8], p: usize) -> Result<usize, Refused>
 fn call(s: &[u8], left: usize, lines: bool, p: usize) -> Result<usize, Refused>
     ensures { Placed s.now left lines call p (went_from result) }
 {
-    if !two_at(s, p, 58, 58) {
-        return enter(s, left, p, mark_end(s, p, 40));
+    if !two_at(s, p, b':', b':') {
+        return enter(s, left, p, mark_end(s, p, b'('));
     }
     let at = space(s, p + 2, lines)?;
     Err(Refusal::Unexpected.at(at))
@@ -189,7 +189,7 @@ pub fn atom(s: &[u8], left: usize, lines: bool, code: u8, x: u8, p: usize) -> Re
         15 => unless(s, p, x),
         16 => comma(s, p),
         17 => call(s, left, lines, p),
-        _ => enter(s, left, p, pair_end(s, p, 36, 123)),
+        _ => enter(s, left, p, pair_end(s, p, b'$', b'{')),
     }
 }
 

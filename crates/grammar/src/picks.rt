@@ -53,7 +53,7 @@ fn calls(s: &[u8], e: usize, lines: bool) -> bool
     if byte_at(s, at) == 40 {
         return true;
     }
-    two_at(s, at, 58, 58)
+    two_at(s, at, b':', b':')
 }
 
 // What the identifier at p begins.

@@ -55,10 +55,7 @@ pub fn find(s: &[u8], keys: &[u16], first: usize, k: usize, p: usize, m: u16) ->
         let same = has_mark(keys, j, m);
         slot = child(keys, j, h);
         h = h / 2;
-        if !same {
-            continue 'slots;
-        }
-        if byte_at(s, a) != b {
+        if !same || byte_at(s, a) != b {
             continue 'slots;
         }
         if !is_start(b) {

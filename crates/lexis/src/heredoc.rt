@@ -92,10 +92,10 @@ fn delimiter_at(s: &[u8], d: usize, dash: bool) -> Result<Opener, usize>
 pub fn opener_at(s: &[u8], p: usize) -> Result<Opener, usize>
     ensures { Opened (opener_at s.now p) s.now p (opener_of result) }
 {
-    if !two_at(s, p, 60, 60) {
+    if !two_at(s, p, b'<', b'<') {
         return Err(p);
     }
-    if one_at(s, p + 2, 45) {
+    if one_at(s, p + 2, b'-') {
         return delimiter_at(s, p + 3, true);
     }
     delimiter_at(s, p + 2, false)

@@ -64,18 +64,24 @@ pub fn op_at(s: &[u8], p: usize) -> Option<Op>
     match a {
         42 => some(Op::TIMES, 6, 1),
         47 => {
-            let slash = followed(s, p, 42, None, some(Op::DIVIDE, 6, 1));
-            followed(s, p, 47, None, slash)
+            let slash = followed(s, p, b'*', None, some(Op::DIVIDE, 6, 1));
+            followed(s, p, b'/', None, slash)
         }
         37 => some(Op::MODULO, 6, 1),
         43 => some(Op::PLUS, 5, 1),
         45 => some(Op::MINUS, 5, 1),
-        62 => followed(s, p, 61, some(Op::AT_LEAST, 4, 2), some(Op::GREATER, 4, 1)),
-        60 => followed(s, p, 61, some(Op::AT_MOST, 4, 2), some(Op::LESS, 4, 1)),
-        61 => followed(s, p, 61, some(Op::EQUAL, 3, 2), None),
-        33 => followed(s, p, 61, some(Op::UNEQUAL, 3, 2), None),
-        38 => followed(s, p, 38, some(Op::AND, 2, 2), None),
-        124 => followed(s, p, 124, some(Op::OR, 1, 2), None),
+        62 => followed(
+            s,
+            p,
+            b'=',
+            some(Op::AT_LEAST, 4, 2),
+            some(Op::GREATER, 4, 1),
+        ),
+        60 => followed(s, p, b'=', some(Op::AT_MOST, 4, 2), some(Op::LESS, 4, 1)),
+        61 => followed(s, p, b'=', some(Op::EQUAL, 3, 2), None),
+        33 => followed(s, p, b'=', some(Op::UNEQUAL, 3, 2), None),
+        38 => followed(s, p, b'&', some(Op::AND, 2, 2), None),
+        124 => followed(s, p, b'|', some(Op::OR, 1, 2), None),
         _ => None,
     }
 }

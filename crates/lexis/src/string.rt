@@ -163,19 +163,19 @@ fn escape_at(s: &[u8], p: usize) -> Result<Unit, Why>
 {
     let b = byte_at(s, p);
     if b == 110 {
-        return Ok(one(2, 10));
+        return Ok(one(2, b'\n'));
     }
     if b == 114 {
-        return Ok(one(2, 13));
+        return Ok(one(2, b'\r'));
     }
     if b == 116 {
-        return Ok(one(2, 9));
+        return Ok(one(2, b'\t'));
     }
     if b == 92 {
-        return Ok(one(2, 92));
+        return Ok(one(2, b'\\'));
     }
     if b == 34 {
-        return Ok(one(2, 34));
+        return Ok(one(2, b'"'));
     }
     if b == 117 {
         return scalar_at(s, p + 1, 4);
@@ -212,19 +212,19 @@ pub fn unit_at(s: &[u8], p: usize, quoted: bool) -> Result<Unit, Why>
         return Err(Why::End);
     }
     let b = s[p];
-    if b == 36 {
-        return marker_at(s, p, 36, Why::Interpolation);
+    if b == b'$' {
+        return marker_at(s, p, b'$', Why::Interpolation);
     }
-    if b == 37 {
-        return marker_at(s, p, 37, Why::Directive);
+    if b == b'%' {
+        return marker_at(s, p, b'%', Why::Directive);
     }
     if !quoted {
         return Ok(one(1, b));
     }
-    if b == 34 {
+    if b == b'"' {
         return Err(Why::Quote);
     }
-    if b == 92 {
+    if b == b'\\' {
         return escape_at(s, p + 1);
     }
     Ok(one(1, b))
@@ -278,14 +278,12 @@ fn is_plain(b: u16, quoted: bool) -> bool
 fn plain_end(s: &[u8], p: usize, quoted: bool) -> usize
     ensures { Ran s.now p (run_to (plain_in quoted) s.now p) result }
 {
-    let mut i = p;
-    loop {
-        let b = byte_at(s, i);
-        if !is_plain(b, quoted) {
+    for i in p..s.len() {
+        if !is_plain(byte_at(s, i), quoted) {
             return i;
         }
-        i += 1;
     }
+    p.max(s.len())
 }
 
 // The longest run of literal text from p, in the text round it.

@@ -30,7 +30,7 @@ fn ending_of(s: &[u8], p: usize, b: u16) -> usize
     if b != 13 {
         return 0;
     }
-    if one_at(s, p + 1, 10) { 2 } else { 0 }
+    if one_at(s, p + 1, b'\n') { 2 } else { 0 }
 }
 
 // The width of the line ending at p: 1 for LF, 2 for CRLF, 0 where there is none.
@@ -46,7 +46,7 @@ fn lf_at(s: &[u8], p: usize) -> usize
     ensures { Lined s.now p result }
 {
     for i in p..s.len() {
-        if s[i] == 10 {
+        if s[i] == b'\n' {
             return i;
         }
     }
@@ -67,7 +67,7 @@ fn block_comment(s: &[u8], p: usize) -> Result<usize, Unclosed>
     ensures { Placed (block (drop (p + 2) s.now)) s.now p (gap_of result) }
 {
     for i in p + 3..s.len() {
-        if s[i] == 47 && s[i - 1] == 42 {
+        if s[i] == b'/' && s[i - 1] == b'*' {
             return Ok(i + 1);
         }
     }
@@ -193,7 +193,7 @@ pub fn terminator(s: &[u8], p: usize) -> Stop
         return comment_stop(s, p + 1);
     }
     if b == 47 {
-        if one_at(s, p + 1, 47) {
+        if one_at(s, p + 1, b'/') {
             return comment_stop(s, p + 2);
         }
         return Stop::Nothing;

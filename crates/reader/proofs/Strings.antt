@@ -24,7 +24,7 @@ use Rattle.grammar.specs.Hcl.{hcl, under, pick_at}
 use Rattle.grammar.specs.Table.{record_of, span}
 use Rattle.reader.specs.Buffer.{put_at}
 use Rattle.reader.specs.Said.{Step, step_of, Asked, Heads, Said}
-use Rattle.reader.specs.Text.{flag_of, step_from, Ends, Piecing, Quoting, SaidString}
+use Rattle.reader.specs.Text.{flag_of, step_from, Ends, Quoting, SaidString}
 use Rattle.grammar.specs.TextLaws.{close_by_lem, run_yes, run_no, pick_string, plain_yes, quote_stands}
 use Rattle.reader.proofs.Lays.{lay_one}
 use Rattle.reader.proofs.Answers.{from_good, refused, head_no, kept_same}
@@ -79,8 +79,8 @@ module _ {s : List ℕ} {i u p d e : ℕ} {r : Run} {c : Step} (w : Quoting s i 
   string_high = rw end_is fits_in_lem.high
 
   -- the numbers of its record fit
-  pub string_leaf : {v n : ℕ} → v ≤ r.end → n ≤ r.end → Piecing v p c.end n
-  string_leaf f g = let end = run_inside w h in record { low = c_low; small = omega (arith, string_high, w.small); used = omega (arith, w.small); short = omega (arith, w.small) }
+  pub string_leaf : {v n : ℕ} → v ≤ r.end → n ≤ r.end → (p ≤ 65535) × (c.end ≤ 65535) × (v ≤ 65535) × (n ≤ 65535)
+  string_leaf f g = let end = run_inside w h in omega (arith, c_low, string_high, w.small)
 
   closed : c.kind ≡ 0 → close_by s p r.end r.why ≡ to c.end
   closed f = closed_as c (close_by s p r.end r.why) end_is fits_in_lem.refused f

@@ -19,6 +19,14 @@ pub struct Level {
     pub lines: bool,
 }
 
+// What a node is of: its kind, where it starts, and how many records of its left operand stand before its own.
+#[derive(Clone, Copy, Debug, PartialEq, Eq, Drop)]
+pub struct Node {
+    pub kind: u16,
+    pub start: usize,
+    pub before: usize,
+}
+
 impl Level {
     // The level under this one, where a line may end as said; where none is left, what stands at the place is refused.
     pub fn deeper(self, place: usize, lines: bool) -> Result<Level, Refused>

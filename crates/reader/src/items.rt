@@ -12,7 +12,7 @@ ghost use Rattle.reader.specs.Items.{sign_from, met_in, Behind, SignedAt, Keepin
 
 use crate::Reading;
 use crate::at::At;
-use crate::put::put;
+use crate::put::leaf;
 use grammar::kinds::{Kind, Refusal, Refused};
 use grammar::moves::{space, unexpected};
 use grammar::picks::{Key, key_end, lone, space_end};
@@ -116,8 +116,7 @@ pub fn bare(s: &[u8], nodes: &mut [u16], at: At, key: Reading)
     if constant_at(s, at.place).is_some() {
         return;
     }
-    let (from, to) = (at.place as u16, key.end as u16);
-    put(nodes, at.records, Kind::KEY, 0, from, to, 1, 0, 0);
+    leaf(nodes, at, Kind::KEY, 0, key.end, 0, 0);
 }
 
 // The mark of the key at p, which is perhaps a word.
@@ -136,10 +135,10 @@ pub fn name(nodes: &mut [u16], at: At, word: Key)
     requires { Baring at.place word.end }
     ensures { nodes.new ≡ put_at nodes.old at.records (record_of (bare word.kind) 0 at.place word.end 1 (0, 0)) }
 {
-    let (from, to) = (at.place as u16, word.end as u16);
-    if word.kind == Kind::VARIABLE {
-        put(nodes, at.records, Kind::KEY, 0, from, to, 1, 0, 0);
-        return;
-    }
-    put(nodes, at.records, word.kind, 0, from, to, 1, 0, 0);
+    let kind = if word.kind == Kind::VARIABLE {
+        Kind::KEY
+    } else {
+        word.kind
+    };
+    leaf(nodes, at, kind, 0, word.end, 0, 0);
 }

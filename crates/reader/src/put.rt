@@ -1,16 +1,16 @@
 // Records in the lent buffer, and what was read.
-ghost use Rattle.std.specs.Prelude.{◌≡◌};
+ghost use Rattle.std.specs.Prelude.{◌≡◌, ◌≤◌};
 ghost use Rattle.grammar.specs.Table.{record_of};
 ghost use Rattle.reader.specs.Buffer.{put_at};
 ghost use Rattle.reader.specs.Said.{Closing, Closed};
 
 use crate::Reading;
-use crate::at::At;
+use crate::at::{At, Node};
+use grammar::kinds::Limit;
 
-// The i-th record, where the buffer has one.
-pub fn put(
-    nodes: &mut [u16],
-    i: usize,
+// The numbers of a record, in the order of the buffer.
+#[derive(Clone, Copy, Drop)]
+struct Record {
     kind: u16,
     flag: u16,
     from: u16,
@@ -18,18 +18,21 @@ pub fn put(
     count: u16,
     text: u16,
     length: u16,
-)
-    ensures { nodes.new ≡ put_at nodes.old i (record_of kind flag from to count (text, length)) }
+}
+
+// The i-th record, where the buffer has one.
+fn put(nodes: &mut [u16], i: usize, row: Record)
+    ensures { nodes.new ≡ put_at nodes.old i (record_of row.kind row.flag row.from row.to row.count (row.text, row.length)) }
 {
-    if i < nodes.len() / 7 {
-        let at = i * 7;
-        nodes[at] = kind;
-        nodes[at + 1] = flag;
-        nodes[at + 2] = from;
-        nodes[at + 3] = to;
-        nodes[at + 4] = count;
-        nodes[at + 5] = text;
-        nodes[at + 6] = length;
+    if i < nodes.len() / Limit::RECORD {
+        let at = i * Limit::RECORD;
+        nodes[at] = row.kind;
+        nodes[at + 1] = row.flag;
+        nodes[at + 2] = row.from;
+        nodes[at + 3] = row.to;
+        nodes[at + 4] = row.count;
+        nodes[at + 5] = row.text;
+        nodes[at + 6] = row.length;
     }
 }
 
@@ -39,32 +42,46 @@ pub fn accept(end: usize, count: usize, text: usize) -> Reading
     Reading { end, count, text }
 }
 
-// A record after the n records of its children, the first of which is the i-th; `before` records of its left operand stand before them.
+// The record of a node without children, from a place to `to`, whose text is `length` bytes from `text` on.
+pub fn leaf(nodes: &mut [u16], at: At, kind: u16, flag: u16, to: usize, text: usize, length: usize)
+    requires { (at.place ≤ 65535) × (to ≤ 65535) × (text ≤ 65535) × (length ≤ 65535) }
+    ensures { nodes.new ≡ put_at nodes.old at.records (record_of kind flag at.place to 1 (text, length)) }
+{
+    let row = Record {
+        kind,
+        flag,
+        from: at.place as u16,
+        to: to as u16,
+        count: 1,
+        text: text as u16,
+        length: length as u16,
+    };
+    put(nodes, at.records, row);
+}
+
+// A node's record after the n records of its children, the first of which is the i-th.
 pub fn close(
     nodes: &mut [u16],
     i: usize,
     n: usize,
-    kind: u16,
+    node: Node,
     flag: usize,
-    from: usize,
     to: usize,
-    before: usize,
     text: usize,
 ) -> Reading
-    requires { Closing i n flag from to before }
-    ensures { Closed i n kind flag from to before text nodes.old nodes.new result }
+    requires { Closing i n flag node.start to node.before }
+    ensures { Closed i n node.kind flag node.start to node.before text nodes.old nodes.new result }
 {
-    put(
-        nodes,
-        i + n,
-        kind,
-        flag as u16,
-        from as u16,
-        to as u16,
-        (before + n + 1) as u16,
-        0,
-        0,
-    );
+    let row = Record {
+        kind: node.kind,
+        flag: flag as u16,
+        from: node.start as u16,
+        to: to as u16,
+        count: (node.before + n + 1) as u16,
+        text: 0,
+        length: 0,
+    };
+    put(nodes, i + n, row);
     accept(to, n + 1, text)
 }
 
@@ -81,5 +98,10 @@ pub fn close_at(
     requires { Closing at.records n flag at.place to 0 }
     ensures { Closed at.records n kind flag at.place to 0 text nodes.old nodes.new result }
 {
-    close(nodes, at.records, n, kind, flag, at.place, to, 0, text)
+    let node = Node {
+        kind,
+        start: at.place,
+        before: 0,
+    };
+    close(nodes, at.records, n, node, flag, to, text)
 }

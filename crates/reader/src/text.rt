@@ -3,14 +3,12 @@ ghost use Rattle.std.specs.Prelude.{◌≡◌, ◌+◌, ◌≤◌};
 ghost use Rattle.lexis.specs.Heredoc.{line_at, part};
 ghost use Rattle.lexis.specs.String.{quoted, quoted_of, from_of, to_of, RunHere};
 ghost use Rattle.grammar.specs.Moves.{closes_as};
-ghost use Rattle.grammar.specs.Table.{record_of};
-ghost use Rattle.reader.specs.Buffer.{put_at};
 ghost use Rattle.reader.specs.Said.{answered, LeadAt};
 ghost use Rattle.reader.specs.Text.{ended, step_from, Ends, Piecing, Pieced, Quoting, SaidString};
 
 use crate::Reading;
 use crate::at::At;
-use crate::put::{accept, put};
+use crate::put::{accept, leaf};
 use grammar::kinds::{Kind, Refusal, Refused};
 use grammar::picks::{Head, head_at};
 use lexis::bytes::byte_at;
@@ -43,24 +41,6 @@ pub fn ends(s: &[u8], start: usize, q: usize, round: Round, why: Why) -> Result<
         Why::Foreign => closing(s, q, round),
         Why::End => Err(Refusal::Unclosed.at(start)),
     }
-}
-
-// The record of a node without children, from a place to `to`, whose text is `length` bytes from `text` on.
-fn leaf(nodes: &mut [u16], at: At, kind: u16, flag: u16, to: usize, text: usize, length: usize)
-    requires { Piecing text at.place to length }
-    ensures { nodes.new ≡ put_at nodes.old at.records (record_of kind flag at.place to 1 (text, length)) }
-{
-    put(
-        nodes,
-        at.records,
-        kind,
-        flag,
-        at.place as u16,
-        to as u16,
-        1,
-        text as u16,
-        length as u16,
-    );
 }
 
 // The piece of a run: its record and, where it is escaped, its text. The answer is how many bytes of text it used.

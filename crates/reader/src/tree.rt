@@ -12,7 +12,7 @@ ghost use Rattle.grammar.specs.Hcl.{pick_at};
 ghost use Rattle.reader.specs.Said.{at_level, AskedAt, SaidAt, SaidLaid, SaidText, SaidSubAt, SaidItemAt, Climbs, Firsts, Terms, Heads, Primary, LeadAt, Bracketed, Laying, Texting};
 
 use crate::Reading;
-use crate::at::{At, Level};
+use crate::at::{At, Level, Node};
 use crate::bare::{attribute, beyond, called, tilde};
 use crate::items::{bare, behind, keep, marked, name, sign_at};
 use crate::put::{accept, close, close_at};
@@ -54,7 +54,7 @@ pub fn expr(
     let mut t = l.text;
     loop {
         let f = next_at(s, e, level.lines);
-        if tight(f.kind) as usize <= j {
+        if usize::from(tight(f.kind)) <= j {
             return Ok(accept(e, n, t));
         }
         let on = At {
@@ -63,7 +63,12 @@ pub fn expr(
             place: e,
             ..at
         };
-        let m = grow(s, nodes, text, keys, on, level, at.place, f, n)?;
+        let node = Node {
+            kind: f.kind,
+            start: at.place,
+            before: n,
+        };
+        let m = grow(s, nodes, text, keys, on, level, node, f.end)?;
         e = m.end;
         n = n + m.count;
         t = t + m.text;
@@ -96,7 +101,7 @@ pub fn first(
     prim(s, nodes, text, keys, at, level, head.kind)
 }
 
-// What follows an operand from `start`. Its head ends at the place itself for all but a binary operator. `before` records of the operand stand before its own.
+// What follows an operand, for a node. Its head ends at the place itself for all but a binary operator.
 #[cycle(tree)]
 pub fn grow(
     s: &[u8],
@@ -105,25 +110,22 @@ pub fn grow(
     keys: &mut [u16],
     at: At,
     level: Level,
-    start: usize,
-    head: Head,
-    before: usize,
+    node: Node,
+    end: usize,
 ) -> Result<Reading, Refused>
-    requires { AskedAt s.now keys.old at × Laying start at.place before head.kind × NextAt s.now at.place level.lines head }
-    ensures { SaidLaid s.now at level start before head.kind nodes.old nodes.new text.old text.new keys.old keys.new result }
+    requires { AskedAt s.now keys.old at × Laying node.start at.place node.before node.kind × NextAt s.now at.place level.lines (record { kind = node.kind; end = end }) }
+    ensures { SaidLaid s.now at level node.start node.before node.kind nodes.old nodes.new text.old text.new keys.old keys.new result }
 {
-    if head.end == at.place {
-        if head.kind == Kind::TRAVERSAL {
-            return parts(s, nodes, text, keys, at, level, start, before);
+    if end == at.place {
+        if node.kind == Kind::TRAVERSAL {
+            return parts(s, nodes, text, keys, at, level, node);
         }
-        return laid(s, nodes, text, keys, at, level, start, head.kind, before);
+        return laid(s, nodes, text, keys, at, level, node);
     }
-    let g = space(s, head.end, level.lines)?;
-    let h = tight(head.kind) as usize;
+    let g = space(s, end, level.lines)?;
+    let h = usize::from(tight(node.kind));
     let m = expr(s, nodes, text, keys, At { place: g, ..at }, level, h)?;
-    Ok(close(
-        nodes, at.records, m.count, head.kind, 0, start, m.end, before, m.text,
-    ))
+    Ok(close(nodes, at.records, m.count, node, 0, m.end, m.text))
 }
 
 // A term, its traversals included; for a unary operator it calls itself.
@@ -163,7 +165,12 @@ pub fn term(
             place: e,
             ..at
         };
-        let m = laid(s, nodes, text, keys, on, level, at.place, f, n)?;
+        let node = Node {
+            kind: f,
+            start: at.place,
+            before: n,
+        };
+        let m = laid(s, nodes, text, keys, on, level, node)?;
         e = m.end;
         n = n + m.count;
         t = t + m.text;
@@ -213,10 +220,15 @@ pub fn prim(
     if kind == Kind::PARENTHESES {
         return within(s, nodes, text, keys, at, level, kind, 41);
     }
-    laid(s, nodes, text, keys, at, level, at.place, kind, 0)
+    let node = Node {
+        kind,
+        start: at.place,
+        before: 0,
+    };
+    laid(s, nodes, text, keys, at, level, node)
 }
 
-// The production of a kind of the program, for a node from `start`, read on from the place; `before` records of its left operand stand before its own.
+// The production of a node whose kind is one of the program, read on from the place.
 #[cycle(tree)]
 pub fn laid(
     s: &[u8],
@@ -225,31 +237,26 @@ pub fn laid(
     keys: &mut [u16],
     at: At,
     level: Level,
-    start: usize,
-    kind: u16,
-    before: usize,
+    node: Node,
 ) -> Result<Reading, Refused>
-    requires { AskedAt s.now keys.old at × Laying start at.place before kind }
-    ensures { SaidLaid s.now at level start before kind nodes.old nodes.new text.old text.new keys.old keys.new result }
+    requires { AskedAt s.now keys.old at × Laying node.start at.place node.before node.kind }
+    ensures { SaidLaid s.now at level node.start node.before node.kind nodes.old nodes.new text.old text.new keys.old keys.new result }
 {
-    let mut pc = begin(kind);
+    let mut pc = begin(node.kind);
     let mut q = at.place;
     let mut n = 0;
     let mut t = 0;
     loop {
         let x = instr(pc);
         if x.op == Instr::FIN {
-            return Ok(close(nodes, at.records, n, kind, x.arg, start, q, before, t));
+            return Ok(close(nodes, at.records, n, node, x.arg, q, t));
         }
-        let mut place = q;
-        let mut further = pc + 1;
+        let (mut place, mut further) = (q, pc + 1);
         if x.op != Instr::KID {
             let to = match walk(s, level.left, level.lines, x.arg, q) {
                 Ok(to) => to,
-                Err(refused) => {
-                    if x.op == Instr::MOVE {
-                        return Err(refused);
-                    }
+                Err(refused) if x.op == Instr::MOVE => return Err(refused),
+                Err(_) => {
                     pc = x.next;
                     continue;
                 }
@@ -299,14 +306,23 @@ pub fn sub(
         return called(s, nodes, at);
     }
     if class == FILTER {
-        let kind = Kind::CONDITION;
-        return laid(s, nodes, text, keys, at, under, at.place, kind, 0);
+        let node = Node {
+            kind: Kind::CONDITION,
+            start: at.place,
+            before: 0,
+        };
+        return laid(s, nodes, text, keys, at, under, node);
     }
     if class == PORTION {
         let Some(kind) = part_at(s, at.place) else {
             return Err(unexpected(s, at.place));
         };
-        return laid(s, nodes, text, keys, at, under, at.place, kind, 0);
+        let node = Node {
+            kind,
+            start: at.place,
+            before: 0,
+        };
+        return laid(s, nodes, text, keys, at, under, node);
     }
     expr(s, nodes, text, keys, at, under, y.bound)
 }
@@ -394,10 +410,15 @@ pub fn part(
     if kind == Kind::INDEX {
         return within(s, nodes, text, keys, at, level, kind, 93);
     }
-    laid(s, nodes, text, keys, at, level, at.place, kind, 0)
+    let node = Node {
+        kind,
+        start: at.place,
+        before: 0,
+    };
+    laid(s, nodes, text, keys, at, level, node)
 }
 
-// The parts of a traversal from the place on, for a node from `start`; `before` records of its base stand before their own.
+// The parts of a traversal from the place on, whose base is the left operand of its node.
 #[cycle(tree)]
 pub fn parts(
     s: &[u8],
@@ -406,13 +427,11 @@ pub fn parts(
     keys: &mut [u16],
     at: At,
     level: Level,
-    start: usize,
-    before: usize,
+    node: Node,
 ) -> Result<Reading, Refused>
-    requires { AskedAt s.now keys.old at × Laying start at.place before 37 }
-    ensures { SaidLaid s.now at level start before 37 nodes.old nodes.new text.old text.new keys.old keys.new result }
+    requires { AskedAt s.now keys.old at × Laying node.start at.place node.before 37 × (node.kind ≡ 37) }
+    ensures { SaidLaid s.now at level node.start node.before 37 nodes.old nodes.new text.old text.new keys.old keys.new result }
 {
-    let kind = Kind::TRAVERSAL;
     let mut q = at.place;
     let mut n = 0;
     let mut t = 0;
@@ -423,14 +442,14 @@ pub fn parts(
                 if n == 0 {
                     return Err(refused);
                 }
-                return Ok(close(nodes, at.records, n, kind, 0, start, q, before, t));
+                return Ok(close(nodes, at.records, n, node, 0, q, t));
             }
         };
         if !is_part(s, g) {
             if n == 0 {
                 return Err(unexpected(s, g));
             }
-            return Ok(close(nodes, at.records, n, kind, 0, start, q, before, t));
+            return Ok(close(nodes, at.records, n, node, 0, q, t));
         }
         let on = At {
             records: at.records + n,
@@ -497,19 +516,13 @@ pub fn quoted(
         place: at.place + 1,
         ..at
     };
-    let kind = Kind::TEMPLATE;
-    pieces(
-        s,
-        nodes,
-        text,
-        keys,
-        inside,
-        level,
-        at.place,
-        kind,
-        0,
-        Round::Quoted,
-    )
+    let node = Node {
+        kind: Kind::TEMPLATE,
+        start: at.place,
+        before: 0,
+    };
+    let round = Round::Quoted;
+    pieces(s, nodes, text, keys, inside, level, node, 0, round)
 }
 
 // A heredoc.
@@ -535,13 +548,15 @@ pub fn heredoc(
         from: o.from,
         to: o.to,
     };
-    let kind = Kind::HEREDOC;
-    pieces(
-        s, nodes, text, keys, inside, level, at.place, kind, flag, round,
-    )
+    let node = Node {
+        kind: Kind::HEREDOC,
+        start: at.place,
+        before: 0,
+    };
+    pieces(s, nodes, text, keys, inside, level, node, flag, round)
 }
 
-// The text of a template or heredoc that starts at `start`, from the place on: its pieces and interpolations, and its end.
+// The text of a template or heredoc, from the place on: its pieces and interpolations, and its end.
 #[cycle(tree)]
 pub fn pieces(
     s: &[u8],
@@ -550,13 +565,12 @@ pub fn pieces(
     keys: &mut [u16],
     at: At,
     level: Level,
-    start: usize,
-    kind: u16,
+    node: Node,
     flag: usize,
     round: Round,
 ) -> Result<Reading, Refused>
-    requires { AskedAt s.now keys.old at × Texting s.now start at.place kind flag (quoted_of round) (from_of round) (to_of round) }
-    ensures { SaidText s.now at level start kind flag nodes.old nodes.new text.old text.new keys.old keys.new result }
+    requires { AskedAt s.now keys.old at × Texting s.now node.start at.place node.kind flag (quoted_of round) (from_of round) (to_of round) × (node.before ≡ 0) }
+    ensures { SaidText s.now at level node.start node.kind flag nodes.old nodes.new text.old text.new keys.old keys.new result }
 {
     let mut q = at.place;
     let mut n = 0;
@@ -578,8 +592,8 @@ pub fn pieces(
             continue;
         }
         let Why::Interpolation = why else {
-            let c = ends(s, start, q, round, why)?;
-            return Ok(close(nodes, at.records, n, kind, flag, start, c, 0, t));
+            let c = ends(s, node.start, q, round, why)?;
+            return Ok(close(nodes, at.records, n, node, flag, c, t));
         };
         let m = interp(s, nodes, text, keys, on, level)?;
         q = m.end;

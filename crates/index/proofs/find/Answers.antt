@@ -4,7 +4,7 @@ use Rattle.lexis.specs.Bytes.{is_start}
 use Rattle.lexis.proofs.Sames.{rests_end, rests_differ, rests_more, keys_differ, keys_word}
 use Rattle.index.proofs.Finds.{search_some, search_none, search_next, search_less, other_mark, of_start, seek_met}
 use Rattle.index.proofs.find.Goals as goal
-use Rattle.index.proofs.find.Goals.{then-first-k, else-first-k}
+use Rattle.index.proofs.find.Goals.{then-first-k, else-first-k, then-not-same-via-then-not-same, then-not-same-via-else-not-same+then-byte_at-b}
 
 pub slots-init : goal.slots-init
 slots-init c = elim c.if-first-k.branch [
@@ -13,16 +13,16 @@ slots-init c = elim c.if-first-k.branch [
 ]
 
 pub slots-smaller-then-not-same : goal.slots-smaller-then-not-same
-slots-smaller-then-not-same c = search_less c.requires.0 (c.slots.invariant.ahead c.in-Some.j c.in-Some.is) (other_mark c.requires.0 (c.slots.invariant.ahead c.in-Some.j c.in-Some.is) c.requires.1 c.has_mark-same.ensures (c.if-not-same.true)) c.child-slot.ensures c.in-Some.is
+slots-smaller-then-not-same c = search_less c.requires.0 (c.slots.invariant.ahead c.in-Some.j c.in-Some.is) (elim c.then-not-same.branch [
+  | then-not-same-via-then-not-same w ↦ other_mark c.requires.0 (c.slots.invariant.ahead c.in-Some.j c.in-Some.is) c.requires.1 c.has_mark-same.ensures w.if-not-same.true
+  | then-not-same-via-else-not-same+then-byte_at-b w ↦ of_start c.args.s.now c.args.p c.start-a.ensures (keys_differ w.byte_at.ensures c.byte_at-b.ensures w.if-byte_at-b.true)
+]) c.child-slot.ensures c.in-Some.is
 
 pub slots-preserved-then-not-same : goal.slots-preserved-then-not-same
-slots-preserved-then-not-same c = search_next c.requires.0 (c.slots.invariant.ahead c.in-Some.j c.in-Some.is) (other_mark c.requires.0 (c.slots.invariant.ahead c.in-Some.j c.in-Some.is) c.requires.1 c.has_mark-same.ensures (c.if-not-same.true)) c.child-slot.ensures
-
-pub slots-smaller-then-byte_at-b : goal.slots-smaller-then-byte_at-b
-slots-smaller-then-byte_at-b c = search_less c.requires.0 (c.slots.invariant.ahead c.in-Some.j c.in-Some.is) (of_start c.args.s.now c.args.p c.start-a.ensures (keys_differ c.byte_at.ensures c.byte_at-b.ensures c.if-byte_at-b.true)) c.child-slot.ensures c.in-Some.is
-
-pub slots-preserved-then-byte_at-b : goal.slots-preserved-then-byte_at-b
-slots-preserved-then-byte_at-b c = search_next c.requires.0 (c.slots.invariant.ahead c.in-Some.j c.in-Some.is) (of_start c.args.s.now c.args.p c.start-a.ensures (keys_differ c.byte_at.ensures c.byte_at-b.ensures c.if-byte_at-b.true)) c.child-slot.ensures
+slots-preserved-then-not-same c = search_next c.requires.0 (c.slots.invariant.ahead c.in-Some.j c.in-Some.is) (elim c.then-not-same.branch [
+  | then-not-same-via-then-not-same w ↦ other_mark c.requires.0 (c.slots.invariant.ahead c.in-Some.j c.in-Some.is) c.requires.1 c.has_mark-same.ensures w.if-not-same.true
+  | then-not-same-via-else-not-same+then-byte_at-b w ↦ of_start c.args.s.now c.args.p c.start-a.ensures (keys_differ w.byte_at.ensures c.byte_at-b.ensures w.if-byte_at-b.true)
+]) c.child-slot.ensures
 
 pub slots-smaller-then-not-is_start : goal.slots-smaller-then-not-is_start
 slots-smaller-then-not-is_start c = search_less c.requires.0 (c.slots.invariant.ahead c.in-Some.j c.in-Some.is) (of_start c.args.s.now c.args.p c.start-a.ensures (sym c.same_key.ensures ∙ c.if-same_key.false)) c.child-slot.ensures c.in-Some.is

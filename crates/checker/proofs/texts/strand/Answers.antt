@@ -4,16 +4,16 @@ use Rattle.checker.proofs.Strands.{strand_no, strand_piece, strand_dollar, stran
 use Rattle.checker.proofs.texts.strand.Goals as goal
 
 pub returns-then-start-q : goal.returns-then-start-q
-returns-then-start-q c = strand_no _ _ _ _ _ _ _ _ (λ a b σ u. c.if-start-q.true (c.wide-start.ensures.0 ∙ a))
+returns-then-start-q c = strand_no _ _ _ _ _ _ _ _ (λ a b σ u. c.if-start-q.true (c.start-start.ensures.0 ∙ a))
 
-pub returns-then-wide-start : goal.returns-then-wide-start
-returns-then-wide-start c = strand_no _ _ _ _ _ _ _ _ (λ a b σ u. omega (arith, b.some, c.if-wide-start.true, c.wide-start.ensures.0, c.wide.ensures.0))
+pub returns-then-end-start : goal.returns-then-end-start
+returns-then-end-start c = strand_no _ _ _ _ _ _ _ _ (λ a b σ u. omega (arith, b.some, c.if-end-start.true, c.start-start.ensures.0, c.end.ensures.0))
 
 pub returns-then-kind-eq-PIECE : goal.returns-then-kind-eq-PIECE
-returns-then-kind-eq-PIECE c = strand_piece _ _ _ _ _ _ _ _ (c.piece.ensures) (c.if-kind-eq-PIECE.true) (sym (c.wide-start.ensures.0) ∙ c.if-start-q.false)
+returns-then-kind-eq-PIECE c = strand_piece _ _ _ _ _ _ _ _ (c.piece.ensures) (sym c.kind-kind.ensures ∙ c.if-kind-eq-PIECE.true) (sym (c.start-start.ensures.0) ∙ c.if-start-q.false)
 
 pub returns-then-kind-ne-INTERPOLATION : goal.returns-then-kind-ne-INTERPOLATION
-returns-then-kind-ne-INTERPOLATION c = strand_other _ _ _ _ _ _ _ _ (c.if-kind-eq-PIECE.false) (c.if-kind-ne-INTERPOLATION.true)
+returns-then-kind-ne-INTERPOLATION c = strand_other _ _ _ _ _ _ _ _ (λ e. c.if-kind-eq-PIECE.false (c.kind-kind.ensures ∙ e)) (λ e. c.if-kind-ne-INTERPOLATION.true (c.kind-kind.ensures ∙ e))
 
 pub returns : goal.returns
-returns c = strand_dollar _ _ _ _ _ _ _ _ (c.opens.ensures) (c.if-kind-ne-INTERPOLATION.false) (sym (c.wide-start.ensures.0) ∙ c.if-start-q.false)
+returns c = strand_dollar _ _ _ _ _ _ _ _ (c.opens.ensures) (sym c.kind-kind.ensures ∙ c.if-kind-ne-INTERPOLATION.false) (sym (c.start-start.ensures.0) ∙ c.if-start-q.false)

@@ -1,23 +1,23 @@
 use native.Mathlib.Omega.{arith}
-use mathlib.Core.Path.{◌∙◌}
+use mathlib.Core.Path.{sym, ◌∙◌}
 use Rattle.lexis.specs.RunLaws.{default}
 use Rattle.checker.proofs.Tolds.{keyed_no, keyed_by}
 use Rattle.checker.proofs.told.keyed.Goals as goal
 
-pub returns-then-table-i-ne-KEY : goal.returns-then-table-i-ne-KEY
-returns-then-table-i-ne-KEY c = keyed_no
+pub returns-then-kind-ne-KEY : goal.returns-then-kind-ne-KEY
+returns-then-kind-ne-KEY c = keyed_no
 
-pub returns-then-told-i-ne0 : goal.returns-then-told-i-ne0
-returns-then-told-i-ne0 c = keyed_no
+pub returns-then-told-spot-ne0 : goal.returns-then-told-spot-ne0
+returns-then-told-spot-ne0 c = keyed_no
 
 pub returns-then-lines : goal.returns-then-lines
 returns-then-lines c = keyed_no
 
-pub returns-then-table-i-ne0 : goal.returns-then-table-i-ne0
-returns-then-table-i-ne0 c = keyed_no
+pub returns-then-flag-ne0 : goal.returns-then-flag-ne0
+returns-then-flag-ne0 c = keyed_no
 
-pub returns-then-wide-p : goal.returns-then-wide-p
-returns-then-wide-p c = keyed_no
+pub returns-then-end-p : goal.returns-then-end-p
+returns-then-end-p c = keyed_no
 
 pub returns : goal.returns
-returns c = keyed_by (c.requires.1.key _ (default c.args.told.now _ 1 0 c.requires.1.room ∙ c.if-told-i-ne0.false)) c.if-table-i-ne-KEY.false c.if-table-i-ne0.false (omega (arith, c.if-wide-p.false, c.wide-p.ensures.0, c.wide.ensures.0)) c.wide-p.ensures.0 c.if-lines.false c.one_at.ensures
+returns c = keyed_by (c.requires.key _ (default c.args.told.now _ 1 0 c.requires.room ∙ c.if-told-spot-ne0.false)) (sym c.kind.ensures ∙ c.if-kind-ne-KEY.false) (sym c.flag.ensures.0 ∙ c.if-flag-ne0.false) (omega (arith, c.if-end-p.false, c.start-p.ensures.0, c.end.ensures.0)) c.start-p.ensures.0 c.if-lines.false c.one_at.ensures

@@ -1,5 +1,4 @@
 use mathlib.Core.Path.{sym, ◌∙◌}
-use borrow.Author.Tests.{not-false}
 use Rattle.checker.proofs.Tolds.{tells_none, tells_one}
 use Rattle.checker.proofs.told.tell.Goals as goal
 
@@ -9,14 +8,14 @@ returns-then-not-alone c = tells_none
 pub returns-then-count-eq0 : goal.returns-then-count-eq0
 returns-then-count-eq0 c = tells_none
 
-pub returns-then-j-count : goal.returns-then-j-count
-returns-then-j-count c = tells_none
+pub returns-then-spot-count : goal.returns-then-spot-count
+returns-then-spot-count c = tells_none
 
-pub returns-then-wide-at : goal.returns-then-wide-at
-returns-then-wide-at c = tells_none
+pub returns-then-start-at : goal.returns-then-start-at
+returns-then-start-at c = tells_none
 
-pub returns-then-wide-end : goal.returns-then-wide-end
-returns-then-wide-end c = tells_none
+pub returns-then-end : goal.returns-then-end
+returns-then-end c = tells_none
 
 pub returns : goal.returns
-returns c = tells_one _ (not-false _ c.if-not-alone.false-raw) (sym c.wide.ensures.0 ∙ c.if-wide-at.false) (sym c.wide-2.ensures.0 ∙ c.if-wide-end.false)
+returns c = tells_one _ c.if-not-alone.false (sym c.start.ensures.0 ∙ c.if-start-at.false) (sym c.end.ensures.0 ∙ c.if-end.false)

@@ -36,17 +36,17 @@ use Rattle.reader.proofs.tree.+tree.Goals.{laid-Joined-x-ne-KID, laid-then-x-ne-
 pub expr-loop-at-init : goal.expr-loop-at-init
 expr-loop-at-init t c = (turning_start (c.in_ok-l.ensures.room) (c.in_ok-l.ensures.spent) (c.in_ok-l.ensures.high), kept_same _, refl, refl)
 
-pub expr-returns-then-tight-j : goal.expr-returns-then-tight-j
-expr-returns-then-tight-j t c = expr_stop c.loop-at.invariant.0 (good c.in_ok-l.ensures refl) (c.requires.1) c.next_at-f.ensures.kind (omega (arith, c.if-tight-j.true, c.tight.ensures)) (told c.accept.ensures) (kept_join (c.in_ok-l.ensures.kept) c.loop-at.invariant.1)
+pub expr-returns-then-from-j : goal.expr-returns-then-from-j
+expr-returns-then-from-j t c = expr_stop c.loop-at.invariant.0 (good c.in_ok-l.ensures refl) (c.requires.1) c.next_at-f.ensures.kind (omega (arith, c.if-from-j.true, c.from.ensures, c.tight.ensures)) (told c.accept.ensures) (kept_join (c.in_ok-l.ensures.kept) c.loop-at.invariant.1)
 
 pub expr-grow-requires : goal.expr-grow-requires
-expr-grow-requires t c = (omega (arith, c.loop-at.invariant.0.room), (omega (arith, c.requires.0, c.loop-at.invariant.0.room, c.loop-at.invariant.0.spent, c.loop-at.invariant.0.high, c.loop-at.invariant.1.long, c.in_ok-l.ensures.kept.long), record { known = (expr_known c.loop-at.invariant.0 (good c.in_ok-l.ensures refl) (c.requires.1) c.next_at-f.ensures.kind (omega (arith, c.if-tight-j.false, c.tight.ensures))).known; room = c.loop-at.invariant.0.room }, c.next_at-f.ensures))
+expr-grow-requires t c = (omega (arith, c.loop-at.invariant.0.room), (omega (arith, c.requires.0, c.loop-at.invariant.0.room, c.loop-at.invariant.0.spent, c.loop-at.invariant.0.high, c.loop-at.invariant.1.long, c.in_ok-l.ensures.kept.long), record { known = (expr_known c.loop-at.invariant.0 (good c.in_ok-l.ensures refl) (c.requires.1) c.next_at-f.ensures.kind (omega (arith, c.if-from-j.false, c.from.ensures, c.tight.ensures))).known; room = c.loop-at.invariant.0.room }, c.next_at-f.ensures))
 
 pub expr-returns-in_err-m : goal.expr-returns-in_err-m
-expr-returns-in_err-m t c = rw (handed_on c.from_residual-in_err-m.result c.in_err-m.field-0.0 c.from_residual-in_err-m.ensures.1) (expr_no c.loop-at.invariant.0 (good c.in_ok-l.ensures refl) (c.requires.1) c.next_at-f.ensures.kind (omega (arith, c.if-tight-j.false, c.tight.ensures)) c.in_err-m.ensures (numbered _) (kept_join (c.in_ok-l.ensures.kept) (kept_join c.loop-at.invariant.1 (c.in_err-m.ensures.kept))))
+expr-returns-in_err-m t c = rw (handed_on c.from_residual-in_err-m.result c.in_err-m.field-0.0 c.from_residual-in_err-m.ensures.1) (expr_no c.loop-at.invariant.0 (good c.in_ok-l.ensures refl) (c.requires.1) c.next_at-f.ensures.kind (omega (arith, c.if-from-j.false, c.from.ensures, c.tight.ensures)) c.in_err-m.ensures (numbered _) (kept_join (c.in_ok-l.ensures.kept) (kept_join c.loop-at.invariant.1 (c.in_err-m.ensures.kept))))
 
 pub expr-loop-at-preserved : goal.expr-loop-at-preserved
-expr-loop-at-preserved t c = (expr_more c.loop-at.invariant.0 (good c.in_ok-l.ensures refl) (c.requires.1) c.next_at-f.ensures.kind (omega (arith, c.if-tight-j.false, c.tight.ensures)) c.in_ok-m.ensures refl, kept_join c.loop-at.invariant.1 (c.in_ok-m.ensures.kept), (c.grow.auto.nodes ∙ c.loop-at.invariant.2), (c.grow.auto.text ∙ c.loop-at.invariant.3))
+expr-loop-at-preserved t c = (expr_more c.loop-at.invariant.0 (good c.in_ok-l.ensures refl) (c.requires.1) c.next_at-f.ensures.kind (omega (arith, c.if-from-j.false, c.from.ensures, c.tight.ensures)) c.in_ok-m.ensures refl, kept_join c.loop-at.invariant.1 (c.in_ok-m.ensures.kept), (c.grow.auto.nodes ∙ c.loop-at.invariant.2), (c.grow.auto.text ∙ c.loop-at.invariant.3))
 
 -- ---- within
 
@@ -88,13 +88,13 @@ first-returns t c = lead_first c.requires.1 c.if-head-eq-NONE.false c.args.level
 -- ---- grow
 
 pub grow-returns-in_err-g : goal.grow-returns-in_err-g
-grow-returns-in_err-g t c = rw (handed_on c.from_residual.result c.in_err-g.field-0.0 c.from_residual.ensures.1) (grow_space c.requires.2 c.if-head-at.false c.requires.1 c.args.level.left c.requires.0 c.args.nodes.now c.args.text.now c.in_err-g.ensures (numbered _) refl (kept_same _))
+grow-returns-in_err-g t c = rw (handed_on c.from_residual.result c.in_err-g.field-0.0 c.from_residual.ensures.1) (grow_space c.requires.2 c.if-end-at.false c.requires.1 c.args.level.left c.requires.0 c.args.nodes.now c.args.text.now c.in_err-g.ensures (numbered _) refl (kept_same _))
 
 pub grow-returns-in_err-m : goal.grow-returns-in_err-m
-grow-returns-in_err-m t c = rw (handed_on c.from_residual-in_err-m.result c.in_err-m.field-0.0 c.from_residual-in_err-m.ensures.1) (grow_no c.requires.2 c.if-head-at.false c.requires.1 c.args.level.left c.requires.0 c.args.nodes.now c.args.text.now c.in_ok-g.ensures refl (rw c.tight-h.ensures at c.in_err-m.ensures) (numbered _) c.in_err-m.ensures.kept)
+grow-returns-in_err-m t c = rw (handed_on c.from_residual-in_err-m.result c.in_err-m.field-0.0 c.from_residual-in_err-m.ensures.1) (grow_no c.requires.2 c.if-end-at.false c.requires.1 c.args.level.left c.requires.0 c.args.nodes.now c.args.text.now c.in_ok-g.ensures refl (rw (c.from-h.ensures, c.tight.ensures) at c.in_err-m.ensures) (numbered _) c.in_err-m.ensures.kept)
 
 pub grow-returns : goal.grow-returns
-grow-returns t c = grow_ok c.requires.2 c.if-head-at.false c.requires.1 c.args.level.left c.requires.0 c.args.nodes.now c.args.text.now c.in_ok-g.ensures refl (rw c.tight-h.ensures at c.in_ok-m.ensures) refl (told_put c.close.ensures) c.in_ok-m.ensures.kept
+grow-returns t c = grow_ok c.requires.2 c.if-end-at.false c.requires.1 c.args.level.left c.requires.0 c.args.nodes.now c.args.text.now c.in_ok-g.ensures refl (rw (c.from-h.ensures, c.tight.ensures) at c.in_ok-m.ensures) refl (told_put c.close.ensures) c.in_ok-m.ensures.kept
 
 -- ---- term
 
@@ -199,14 +199,14 @@ laid-returns-then-x-eq-FIN t c = laid_ok c.loop-level.invariant.2 c.instr-x.ensu
 pub laid-overflow_add-further : goal.laid-overflow_add-further
 laid-overflow_add-further t c = omega (arith, laid_within c.loop-level.invariant.2 c.instr-x.ensures)
 
-pub laid-returns-then-x-eq-MOVE : goal.laid-returns-then-x-eq-MOVE
-laid-returns-then-x-eq-MOVE t c = laid_stop c.loop-level.invariant.2 c.instr-x.ensures (rw c.in-Err.is at c.walk.ensures) c.if-x-eq-MOVE.true (numbered _) refl c.loop-level.invariant.3
+pub laid-returns-in-Err : goal.laid-returns-in-Err
+laid-returns-in-Err t c = laid_stop c.loop-level.invariant.2 c.instr-x.ensures (rw c.in-Err.is at c.walk.ensures) c.if-x-eq-MOVE.true (numbered _) refl c.loop-level.invariant.3
 
-pub laid-loop-level-smaller-in-Err : goal.laid-loop-level-smaller-in-Err
-laid-loop-level-smaller-in-Err t c = omega (arith, laid_later c.loop-level.invariant.2 c.instr-x.ensures (rw c.in-Err.is at c.walk.ensures) c.if-x-eq-FIN.false c.if-x-ne-KID.true c.if-x-eq-MOVE.false, laid_within c.loop-level.invariant.2 c.instr-x.ensures)
+pub laid-loop-level-smaller-in-Err-2 : goal.laid-loop-level-smaller-in-Err-2
+laid-loop-level-smaller-in-Err-2 t c = omega (arith, laid_later c.loop-level.invariant.2 c.instr-x.ensures (rw c.in-Err-2.is at c.walk.ensures) c.if-x-eq-FIN.false c.if-x-ne-KID.true c.if-x-eq-MOVE.false, laid_within c.loop-level.invariant.2 c.instr-x.ensures)
 
-pub laid-loop-level-preserved-in-Err : goal.laid-loop-level-preserved-in-Err
-laid-loop-level-preserved-in-Err t c = (c.loop-level.invariant.0, c.loop-level.invariant.1, laid_other c.loop-level.invariant.2 c.instr-x.ensures (rw c.in-Err.is at c.walk.ensures) c.if-x-eq-FIN.false c.if-x-ne-KID.true c.if-x-eq-MOVE.false (numbered _), c.loop-level.invariant.3, c.loop-level.invariant.4, c.loop-level.invariant.5)
+pub laid-loop-level-preserved-in-Err-2 : goal.laid-loop-level-preserved-in-Err-2
+laid-loop-level-preserved-in-Err-2 t c = (c.loop-level.invariant.0, c.loop-level.invariant.1, laid_other c.loop-level.invariant.2 c.instr-x.ensures (rw c.in-Err-2.is at c.walk.ensures) c.if-x-eq-FIN.false c.if-x-ne-KID.true c.if-x-eq-MOVE.false (numbered _), c.loop-level.invariant.3, c.loop-level.invariant.4, c.loop-level.invariant.5)
 
 pub laid-overflow_add-pc : goal.laid-overflow_add-pc
 laid-overflow_add-pc t c = omega (arith, laid_within c.loop-level.invariant.2 c.instr-x.ensures)
@@ -270,13 +270,13 @@ pub parts-returns-then-n-eq0 : goal.parts-returns-then-n-eq0
 parts-returns-then-n-eq0 t c = parts_gap c.loop-g.invariant.2 (moved_in c.in-Err.is c.space.ensures) (numbered _) c.if-n-eq0.true refl c.loop-g.invariant.3
 
 pub parts-returns-in-Err : goal.parts-returns-in-Err
-parts-returns-in-Err t c = parts_cut c.loop-g.invariant.2 (moved_in c.in-Err.is c.space.ensures) (numbered _) c.if-n-eq0.false (told_put c.close.ensures) c.loop-g.invariant.3
+parts-returns-in-Err t c = parts_cut c.loop-g.invariant.2 (moved_in c.in-Err.is c.space.ensures) (numbered _) c.if-n-eq0.false (told_put (rw c.requires.2 at c.close.ensures)) c.loop-g.invariant.3
 
 pub parts-returns-then-n-eq0-2 : goal.parts-returns-then-n-eq0-2
 parts-returns-then-n-eq0-2 t c = parts_else c.loop-g.invariant.2 (moved_in c.in-Ok.is c.space.ensures) refl (sym c.is_part.ensures ∙ c.if-not-is_part.true) c.if-n-eq0-2.true c.unexpected.ensures refl c.loop-g.invariant.3
 
 pub parts-returns-then-not-is_part : goal.parts-returns-then-not-is_part
-parts-returns-then-not-is_part t c = parts_end c.loop-g.invariant.2 (moved_in c.in-Ok.is c.space.ensures) refl (sym c.is_part.ensures ∙ c.if-not-is_part.true) c.if-n-eq0-2.false (told_put c.close-then-not-is_part.ensures) c.loop-g.invariant.3
+parts-returns-then-not-is_part t c = parts_end c.loop-g.invariant.2 (moved_in c.in-Ok.is c.space.ensures) refl (sym c.is_part.ensures ∙ c.if-not-is_part.true) c.if-n-eq0-2.false (told_put (rw c.requires.2 at c.close-then-not-is_part.ensures)) c.loop-g.invariant.3
 
 pub parts-returns-in_err-m : goal.parts-returns-in_err-m
 parts-returns-in_err-m t c = rw (handed_on c.from_residual.result c.in_err-m.field-0.0 c.from_residual.ensures.1) (parts_no c.loop-g.invariant.2 (moved_in c.in-Ok.is c.space.ensures) refl (sym c.is_part.ensures ∙ c.if-not-is_part.false) c.in_err-m.ensures (numbered _) (kept_join c.loop-g.invariant.3 c.in_err-m.ensures.said.kept))
@@ -393,7 +393,7 @@ pub heredoc-returns-in-Err : goal.heredoc-returns-in-Err
 heredoc-returns-in-Err t c = heredoc_no c.args.s.now c.args.level.left c.args.level.lines c.args.at.place c.requires.1 c.in-Err.ensures refl c.unexpected.ensures refl c.requires.0.inside
 
 pub heredoc-pieces-requires : goal.heredoc-pieces-requires
-heredoc-pieces-requires t c = (omega (arith, c.in-Ok.ensures, c.requires.0), (heredoc_asked c.args.s.now c.args.level.left c.args.level.lines c.args.at.place c.requires.1 c.in-Ok.ensures c.requires.0, heredoc_texting c.args.s.now c.args.level.left c.args.level.lines c.args.at.place c.requires.1 c.in-Ok.ensures refl c.from-flag.result (flag_few c.in-Ok.o.dash c.from-flag.ensures)))
+heredoc-pieces-requires t c = (omega (arith, c.in-Ok.ensures, c.requires.0), (heredoc_asked c.args.s.now c.args.level.left c.args.level.lines c.args.at.place c.requires.1 c.in-Ok.ensures c.requires.0, heredoc_texting c.args.s.now c.args.level.left c.args.level.lines c.args.at.place c.requires.1 c.in-Ok.ensures refl c.from-flag.result (flag_few c.in-Ok.o.dash c.from-flag.ensures), refl))
 
 pub heredoc-returns : goal.heredoc-returns
 heredoc-returns t c = heredoc_said c.args.s.now c.args.level.left c.args.level.lines c.args.at.place c.requires.1 c.in-Ok.ensures refl c.from-flag.result (sym (c.from-flag.ensures ∙ flag_byte c.in-Ok.o.dash)) c.pieces.ensures
@@ -411,10 +411,10 @@ pub pieces-returns-in_err-c : goal.pieces-returns-in_err-c
 pieces-returns-in_err-c t c = rw (handed_on c.from_residual.result c.in_err-c.field-0.0 c.from_residual.ensures.1) (round_ends_no c.loop-q.invariant.2 c.loop-q.invariant.1 c.run_at-r.ensures c.if-r-q.false c.in_default.not-Interpolation c.in_err-c.ensures (numbered _))
 
 pub pieces-close-requires : goal.pieces-close-requires
-pieces-close-requires t c = round_closing c.loop-q.invariant.2 c.loop-q.invariant.1 c.run_at-r.ensures c.if-r-q.false c.in_default.not-Interpolation c.in_ok-c.ensures c.loop-q.invariant.0.small (omega (arith, c.loop-q.invariant.0)) refl
+pieces-close-requires t c = rw c.requires.2 (round_closing c.loop-q.invariant.2 c.loop-q.invariant.1 c.run_at-r.ensures c.if-r-q.false c.in_default.not-Interpolation c.in_ok-c.ensures c.loop-q.invariant.0.small (omega (arith, c.loop-q.invariant.0)) refl)
 
 pub pieces-returns-in_default : goal.pieces-returns-in_default
-pieces-returns-in_default t c = round_closes c.loop-q.invariant.2 c.loop-q.invariant.1 c.run_at-r.ensures c.if-r-q.false c.in_default.not-Interpolation c.in_ok-c.ensures refl (told c.close.ensures.0) c.close.ensures.1
+pieces-returns-in_default t c = round_closes c.loop-q.invariant.2 c.loop-q.invariant.1 c.run_at-r.ensures c.if-r-q.false c.in_default.not-Interpolation c.in_ok-c.ensures refl (told c.close.ensures.0) (rw c.requires.2 at c.close.ensures.1)
 
 pub pieces-returns-in_err-m : goal.pieces-returns-in_err-m
 pieces-returns-in_err-m t c = rw (handed_on c.from_residual-in_err-m.result c.in_err-m.field-0.0 c.from_residual-in_err-m.ensures.1) (round_interp_no c.loop-q.invariant.2 c.loop-q.invariant.1 c.run_at-r.ensures c.if-r-q.false c.in-Interpolation.is c.in_err-m.ensures (numbered _))

@@ -36,7 +36,7 @@ abbrev pub decreases-item : goal.decreases-item
 decreases-item l = ranked l.left l.s.now l.at 102
 
 abbrev pub decreases-laid : goal.decreases-laid
-decreases-laid l = ranked l.level.left l.s.now l.at (2 * (43 - l.kind))
+decreases-laid l = ranked l.level.left l.s.now l.at (2 * (43 - l.node.kind))
 
 abbrev pub decreases-named : goal.decreases-named
 decreases-named l = ranked l.left l.s.now l.at 101
@@ -81,13 +81,13 @@ abbrev pub decreases-term-loop-at : goal.decreases-term-loop-at
 decreases-term-loop-at l = length l.s - l.e
 
 abbrev pub invariant-laid-loop-level : goal.invariant-laid-loop-level
-invariant-laid-loop-level l = AskedAt l.s l.initial.keys l.at × Laying l.start l.at.place l.before l.kind × TurnLaids l.s l.level.left l.level.lines l.start l.kind l.at.place l.at.records l.at.text l.initial.nodes l.nodes l.initial.text l.text l.pc l.q l.n l.t × Kept l.at.keys l.initial.keys l.keys × (length l.nodes ≡ length l.initial.nodes) × (length l.text ≡ length l.initial.text)
+invariant-laid-loop-level l = AskedAt l.s l.initial.keys l.at × Laying l.node.start l.at.place l.node.before l.node.kind × TurnLaids l.s l.level.left l.level.lines l.node.start l.node.kind l.at.place l.at.records l.at.text l.initial.nodes l.nodes l.initial.text l.text l.pc l.q l.n l.t × Kept l.at.keys l.initial.keys l.keys × (length l.nodes ≡ length l.initial.nodes) × (length l.text ≡ length l.initial.text)
 
 abbrev pub decreases-laid-loop-level : goal.decreases-laid-loop-level
 decreases-laid-loop-level l = 256 * (length l.s - l.q) + (228 - l.pc)
 
 abbrev pub invariant-parts-loop-g : goal.invariant-parts-loop-g
-invariant-parts-loop-g l = AskedAt l.s l.initial.keys l.at × Laying l.start l.at.place l.before 37 × Parting l.s l.level.left l.level.lines l.start l.at.place l.at.records l.at.text l.initial.nodes l.nodes l.initial.text l.text l.q l.n l.t × Kept l.at.keys l.initial.keys l.keys × (length l.nodes ≡ length l.initial.nodes) × (length l.text ≡ length l.initial.text)
+invariant-parts-loop-g l = AskedAt l.s l.initial.keys l.at × Laying l.node.start l.at.place l.node.before 37 × Parting l.s l.level.left l.level.lines l.node.start l.at.place l.at.records l.at.text l.initial.nodes l.nodes l.initial.text l.text l.q l.n l.t × Kept l.at.keys l.initial.keys l.keys × (length l.nodes ≡ length l.initial.nodes) × (length l.text ≡ length l.initial.text)
 
 abbrev pub decreases-parts-loop-g : goal.decreases-parts-loop-g
 decreases-parts-loop-g l = length l.s - l.q
@@ -105,7 +105,7 @@ abbrev pub decreases-object-loop-m : goal.decreases-object-loop-m
 decreases-object-loop-m l = length l.s - l.q
 
 abbrev pub invariant-pieces-loop-q : goal.invariant-pieces-loop-q
-invariant-pieces-loop-q l = AskedAt l.s l.initial.keys l.at × Texting l.s l.start l.at.place l.kind l.flag (quoted_of l.round) (from_of l.round) (to_of l.round) × Round l.s l.level.left l.level.lines l.start l.kind l.flag l.at.place l.at.records l.at.text l.at.keys l.initial.nodes l.nodes l.initial.text l.text l.initial.keys l.keys l.q l.n l.t × (length l.nodes ≡ length l.initial.nodes) × (length l.text ≡ length l.initial.text)
+invariant-pieces-loop-q l = AskedAt l.s l.initial.keys l.at × Texting l.s l.node.start l.at.place l.node.kind l.flag (quoted_of l.round) (from_of l.round) (to_of l.round) × Round l.s l.level.left l.level.lines l.node.start l.node.kind l.flag l.at.place l.at.records l.at.text l.at.keys l.initial.nodes l.nodes l.initial.text l.text l.initial.keys l.keys l.q l.n l.t × (length l.nodes ≡ length l.initial.nodes) × (length l.text ≡ length l.initial.text)
 
 abbrev pub decreases-pieces-loop-q : goal.decreases-pieces-loop-q
 decreases-pieces-loop-q l = length l.s - l.q
