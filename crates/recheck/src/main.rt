@@ -24,8 +24,13 @@ fn numbers(bytes: &[u8], table: &mut [u16]) {
     }
 }
 
+// An answer and its line end are one write: who reads answers as they come sees whole lines.
 fn show<W: Write>(out: &mut W, source: &[u8], table: &[u16], text: &[u8]) -> io::Result<()> {
-    writeln!(out, "{}", u8::from(checker::check(source, table, text)))
+    if checker::check(source, table, text) {
+        out.write_all(b"1\n")
+    } else {
+        out.write_all(b"0\n")
+    }
 }
 
 // Reads one triple into parts that have its lengths, and shows it; false where the input does not hold it.
