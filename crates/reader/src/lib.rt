@@ -5,12 +5,14 @@ ghost use Rattle.grammar.specs.Kinds.{number};
 ghost use Rattle.grammar.specs.Answer.{answer};
 ghost use Rattle.reader.specs.Read.{Clean, Fitting, Reads, answer_from};
 
+use crate::copy::front;
 use crate::whole::whole;
 use grammar::kinds::{Limit, Refusal};
 use lexis::utf8::first_bad;
 
 mod at;
 mod bare;
+mod copy;
 mod items;
 pub mod node;
 mod put;
@@ -80,8 +82,8 @@ fn once(
         return again(source, nodes, text, keys, m);
     }
     let n = Limit::RECORD * m.count;
-    nodes[..n].copy_from_slice(&rows[..n]);
-    text[..m.text].copy_from_slice(&runs[..m.text]);
+    front(&rows[..n], nodes);
+    front(&runs[..m.text], text);
     accepted(m)
 }
 

@@ -1,10 +1,10 @@
 -- A source is read into room of its own; what is copied of that is what reading would lay over the lent room.
-use Prim.Native.Nat.{ℕ, ◌*◌}
+use Prim.Native.Nat.{◌*◌}
 use mathlib.Core.List.{◌++◌}
-use mathlib.Core.Path.{refl, sym, ap}
+use mathlib.Core.Path.{refl, sym, ap, ◌∙◌}
 use native.Mathlib.Omega.{arith}
-use lib.ListN.{drop}
-use Rattle.std.proofs.Common.{length-append}
+use lib.ListN.{take, drop}
+use Rattle.std.proofs.lemmas.List.{length-take-le}
 use Rattle.grammar.proofs.Refusals.{numbered}
 use Rattle.reader.proofs.Seen.{said_in}
 use Rattle.reader.proofs.Wholly.{read_refused, read_slots, read_text_lem, fitting, read_copied}
@@ -35,4 +35,4 @@ pub shape_of-runs : goal.shape_of-runs
 shape_of-runs c = c.whole.auto.text
 
 pub returns : goal.returns
-returns c = read_copied c.requires.0.small (sym c.requires.0.whole) refl (said_in c.in-Ok.is c.whole.ensures) refl (omega (arith, c.if-m-nodes.false)) (omega (arith, c.if-m-text.false)) (omega (arith, c.if-m-rows.false, c.whole.auto.nodes)) (omega (arith, c.if-m-runs.false, c.whole.auto.text)) (ap (λ l. l ++ drop (7 * c.in-Ok.m.count) c.args.nodes.now) c.copy_from_slice.ensures.after) (ap (λ l. l ++ drop c.in-Ok.m.text c.args.text.now) c.copy_from_slice-2.ensures.after) (omega (arith, length-append {A = ℕ})) (omega (arith, length-append {A = ℕ})) c.accepted.ensures
+returns c = read_copied c.requires.0.small (sym c.requires.0.whole) refl (said_in c.in-Ok.is c.whole.ensures) refl (omega (arith, c.if-m-nodes.false)) (omega (arith, c.if-m-text.false)) (omega (arith, c.if-m-rows.false, c.whole.auto.nodes)) (omega (arith, c.if-m-runs.false, c.whole.auto.text)) (c.front.ensures ∙ ap (λ k. take (7 * c.in-Ok.m.count) c.whole.new.nodes ++ drop k c.args.nodes.now) (length-take-le _ _ (omega (arith, c.if-m-rows.false, c.whole.auto.nodes)))) (c.front-2.ensures ∙ ap (λ k. take c.in-Ok.m.text c.whole.new.text ++ drop k c.args.text.now) (length-take-le _ _ (omega (arith, c.if-m-runs.false, c.whole.auto.text)))) c.front.auto.to c.front-2.auto.to c.accepted.ensures
