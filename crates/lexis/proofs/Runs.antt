@@ -3,11 +3,14 @@ use Prim.Native.Nat.{ℕ, zero, suc, ◌+◌, ◌-◌, ◌<◌, ◌≤◌, max}
 use mathlib.Core.Path.{◌≡◌, refl, sym, ap, ◌∙◌}
 use mathlib.Core.List.{List, [], ◌∷◌}
 use mathlib.Core.Bool.{Bool, true, false, cond, ◌&&◌, or-true}
+use native.Mathlib.Numerals.{add-one}
+use native.Mathlib.Nat.{add-zero}
 use native.Mathlib.Omega.{arith}
-use lib.ListN.{length, drop}
+use lib.ListN.{length, get_or, drop}
+use lib.Seq.{drop-cons}
 use lib.Dec.{leb}
-use Rattle.lexis.specs.Bytes.{Byte, Ran, is_within, is_rest, run, run_to, byte_at}
-use Rattle.lexis.specs.RunLaws.{front, run_on, run_stop, run_end}
+use Rattle.lexis.specs.Bytes.{Byte, Ran, is_within, is_rest, run, run_to, byte_at, stands}
+use Rattle.lexis.specs.RunLaws.{front, empty, run_on, run_stop, run_end, stands_none, stands_on, stands_off}
 
 -- a test of a byte that was read is a test of the source
 pub tested : (t : ℕ → Bool) {s : List ℕ} {p b : ℕ} {r v : Bool} → Byte s p b → r ≡ t b → r ≡ v → t (byte_at s p) ≡ v
@@ -62,6 +65,25 @@ module _ (t : ℕ → Bool) (s : List ℕ) (i : ℕ) where
       later : (b : Bool) → t (byte_at s i) ≡ b → b ≡ true
       later true e = refl
       later false e = absurd (n (run_stop t s i e))
+
+-- a word that is compared byte by byte: what is left of it stands behind what was passed
+module _ (w s : List ℕ) (p : ℕ) where
+  pub all_start : stands (drop 0 w) s (p + 0) ≡ stands w s p
+  all_start = rw add-zero
+
+  module _ (i : ℕ) where
+    pub all_end : length w ≤ i → stands (drop i w) s (p + i) ≡ stands w s p → stands w s p ≡ true
+    all_end h e = sym e ∙ rw (empty w i) (stands_none s (p + i))
+
+    module _ (h : i < length w) (l : get_or w i 0 < 256) where
+      pub all_more : stands (get_or w i 0 ∷ []) s (p + i) ≡ true → stands (drop (i + 1) w) s (p + (i + 1)) ≡ stands (drop i w) s (p + i)
+      all_more e =
+          let f : p + (i + 1) ≡ p + i + 1 = omega arith in
+          let g : drop (i + 1) w ≡ drop (suc i) w = rw add-one in
+          rw (f, g, drop-cons w i 0) (stands_on (get_or w i 0) (drop (suc i) w) s (p + i) l e refl)
+
+      pub all_fails : stands (get_or w i 0 ∷ []) s (p + i) ≡ false → stands (drop i w) s (p + i) ≡ stands w s p → stands w s p ≡ false
+      all_fails e f = sym f ∙ rw (drop-cons w i 0) (stands_off (get_or w i 0) (drop (suc i) w) s (p + i) l e)
 
 -- a small letter is an identifier character
 pub small_rest : (b : ℕ) → is_within 97 122 b ≡ true → is_rest b ≡ true

@@ -91,8 +91,11 @@ pub fn two_at(s: &[u8], p: usize, a: u8, b: u8) -> bool
 pub fn all_at(s: &[u8], p: usize, w: &[u8]) -> bool
     ensures { result ≡ stands w.now s.now p }
 {
-    match s.get(p..) {
-        Some(rest) => rest.starts_with(w),
-        None => w.is_empty(),
+    // byte by byte: most often the first byte tells, and the library's comparison looks at whole blocks
+    for i in 0..w.len() {
+        if !one_at(s, p + i, w[i]) {
+            return false;
+        }
     }
+    true
 }

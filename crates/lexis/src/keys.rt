@@ -1,9 +1,10 @@
 // Equal keys of an object.
-ghost use Rattle.std.specs.Prelude.{◌≡◌, [], drop};
+ghost use Rattle.std.specs.Prelude.{◌≡◌, [], true, drop};
+ghost use Rattle.lexis.specs.String.{unit, UnitAt};
 ghost use Rattle.lexis.specs.Keys.{alike, rest_of, plain, string_at, same_as, same_key, met_before};
 
 use crate::bytes::{byte_at, is_rest, is_start};
-use crate::string::{Why, unit_at};
+use crate::string::{Unit, Why, unit_at};
 
 const QUOTE: u16 = 34;
 
@@ -27,11 +28,19 @@ fn same_rest(s: &[u8], a: usize, b: usize) -> bool
     }
 }
 
+// The unit at p of a key's text: `unit_at` as a function of its own, since keys with quotes are rarely compared.
+#[inline(never)]
+fn key_unit(s: &[u8], p: usize) -> Result<Unit, Why>
+    ensures { UnitAt s.now (unit true (drop p s.now)) p result }
+{
+    unit_at(s, p, true)
+}
+
 // Whether the string whose text starts at p has none and is closed at once.
 fn closes_at(s: &[u8], p: usize) -> bool
     ensures { result ≡ same_as (plain []) (string_at s.now p) }
 {
-    match unit_at(s, p, true) {
+    match key_unit(s, p) {
         Ok(_) => false,
         Err(why) => why == Why::Quote,
     }
@@ -50,7 +59,7 @@ fn same_text(s: &[u8], a: usize, b: usize) -> bool
     let mut m: u8 = 0;
     loop {
         if n == 0 {
-            match unit_at(s, i, true) {
+            match key_unit(s, i) {
                 Ok(x) => {
                     i += x.width;
                     u = x.bytes;
@@ -63,7 +72,7 @@ fn same_text(s: &[u8], a: usize, b: usize) -> bool
             continue;
         }
         if m == 0 {
-            let Ok(y) = unit_at(s, j, true) else {
+            let Ok(y) = key_unit(s, j) else {
                 return false;
             };
             j += y.width;

@@ -88,18 +88,18 @@ fn one(width: usize, b: u8) -> Unit
 }
 
 // The value of a hexadecimal digit.
-fn hex_value(b: u16) -> Option<u32>
+fn hex_value(b: u16) -> Option<u8>
     ensures value { result ≡ cond (is_hex b) (Some (hex_of b)) None }
     ensures low { IfSome result (λ d. d < 16) }
 {
     if is_digit(b) {
-        return Some(u32::from(b) - 48);
+        return Some((b - 48) as u8);
     }
     if within(b, 97, 102) {
-        return Some(u32::from(b) - 87);
+        return Some((b - 87) as u8);
     }
     if within(b, 65, 70) {
-        return Some(u32::from(b) - 55);
+        return Some((b - 55) as u8);
     }
     None
 }
@@ -138,7 +138,8 @@ fn encode(width: usize, v: u32) -> Result<Unit, Why>
     ))
 }
 
-// The escape with n hexadecimal digits from p on.
+// The escape with n hexadecimal digits from p on. Like all that `unit_at` asks, it is put into it.
+#[inline(always)]
 fn scalar_at(s: &[u8], p: usize, n: usize) -> Result<Unit, Why>
     requires { (p ≤ length s.now) × (n ≤ 8) }
     ensures { result ≡ answer_of (scalar n (drop p s.now)) }
@@ -148,7 +149,7 @@ fn scalar_at(s: &[u8], p: usize, n: usize) -> Result<Unit, Why>
         let Some(d) = hex_value(byte_at(s, p + k)) else {
             return Err(Why::Escape);
         };
-        v = v * 16 + d;
+        v = v * 16 + u32::from(d);
         if LAST_SCALAR < v {
             return Err(Why::Escape);
         }
@@ -157,6 +158,7 @@ fn scalar_at(s: &[u8], p: usize, n: usize) -> Result<Unit, Why>
 }
 
 // The escape whose letter is at p.
+#[inline(always)]
 fn escape_at(s: &[u8], p: usize) -> Result<Unit, Why>
     requires { p ≤ length s.now }
     ensures { result ≡ answer_of (escape (byte_at s.now p) (drop (p + 1) s.now)) }
@@ -204,7 +206,8 @@ fn marker_at(s: &[u8], p: usize, b: u8, why: Why) -> Result<Unit, Why>
     Ok(made(3, u32::from(b) + 256 * u32::from(BRACE), 2))
 }
 
-// The unit at p, in quoted text or in a heredoc.
+// The unit at p, in quoted text or in a heredoc. It is put into what goes through a text unit by unit, so that no answer goes through memory there.
+#[inline(always)]
 pub fn unit_at(s: &[u8], p: usize, quoted: bool) -> Result<Unit, Why>
     ensures { UnitAt s.now (unit quoted (drop p s.now)) p result }
 {

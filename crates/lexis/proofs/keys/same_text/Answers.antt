@@ -29,7 +29,7 @@ pub returns-in_default : goal.returns-in_default
 returns-in_default c = sym (ends_after c.loop-n.invariant c.if-n-eq0.false c.if-m-eq0-2.true c.in_default.ensures)
 
 pub loop-n-preserved-then-m-eq0-2 : goal.loop-n-preserved-then-m-eq0-2
-loop-n-preserved-then-m-eq0-2 c = take_there c.loop-n.invariant (λ k. omega (arith, c.type_inv.s k)) c.if-m-eq0-2.true c.in-Ok-unit_at.ensures
+loop-n-preserved-then-m-eq0-2 c = take_there c.loop-n.invariant (λ k. omega (arith, c.type_inv.s k)) c.if-m-eq0-2.true c.in-Ok-key_unit.ensures
 
 pub returns-then-u-v : goal.returns-then-u-v
 returns-then-u-v c = sym (bytes_differ c.loop-n.invariant c.if-n-eq0.false c.if-m-eq0-2.false c.if-u-v.true)
