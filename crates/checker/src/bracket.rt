@@ -9,7 +9,8 @@ use grammar::moves::space;
 use grammar::program::Want;
 use lexis::operator::{mark_end, pair_end};
 
-// An expression behind any trivia from p on, a level deeper than a depth.
+// An expression behind any trivia from p on, a level deeper than a depth. It is put into its callers, as `layout` is: each call hands over a copy of the site.
+#[inline(always)]
 pub fn inside(site: Site, depths: &mut [u8], j: usize, p: usize) -> bool
     requires { Seating site.table.now site.i depths.old j × (2 ≤ site.own) }
     ensures { StepBy site.entry.s.now site.entry.table.now site.entry.i site.entry.own depths.old depths.new inside_lay j p result }

@@ -14,6 +14,7 @@ use crate::traversal::traversal;
 use grammar::kinds::Kind;
 
 // Whether the layout of the row's kind, which has no items, goes from p over the children from the j-th row on, and ends where the row does.
+#[inline(always)]
 pub fn layout(site: Site, depths: &mut [u8], j: usize, p: usize) -> bool
     requires { Itemless site.table.now site.i site.marks.now depths.old j }
     ensures { LaidBy site.entry.s.now site.entry.table.now site.entry.i site.entry.marks.now depths.old depths.new j p (site.entry.own / 2) (eqb (site.entry.own % 2) 1) result }
