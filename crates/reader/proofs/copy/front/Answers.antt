@@ -1,6 +1,6 @@
 -- A turn copies one more, and the whole is all of one buffer and what is left of the other.
-use Rattle.std.proofs.Common.{rules, ◌≡◌, ◌++◌, length, drop, ℕ, ◌+◌, ◌≤◌}
-use mathlib.Core.Path.{refl, sym, ap, ◌∙◌}
+use Rattle.std.proofs.Common.{rules, ◌≡◌, ◌++◌, length, drop, ◌+◌}
+use mathlib.Core.Path.{sym, ap, ◌∙◌}
 use native.Mathlib.Omega.{arith}
 use lib.ListN.{get_or, set, take}
 use lib.Seq.{paste, paste-zero}
