@@ -182,7 +182,8 @@ fn ruled(
     headed(site, text, depths, keys, told, first)
 }
 
-// Whether the rule holds at the i-th row. Its children's depths are put down, and their links; of an object, what is known of its keys.
+// Whether the rule holds at the i-th row. It is put into the loop over the rows. Its children's depths are put down, and their links; of an object, what is known of its keys.
+#[inline(always)]
 pub fn node(
     s: &[u8],
     text: &[u8],

@@ -2,14 +2,15 @@
 use Prim.Native.Nat.{ℕ, zero, suc, ◌+◌, ◌-◌, ◌≤◌, ◌<◌, min}
 use mathlib.Core.Path.{◌≡◌, refl, sym, ap, ◌∙◌}
 use mathlib.Core.List.{List, [], ◌∷◌}
-use mathlib.Core.Bool.{Bool, true, false, cond}
-use native.Mathlib.Decide.{dec_le}
+use mathlib.Core.Bool.{Bool, true, false, cond, ◌&&◌}
+use native.Mathlib.Decide.{dec_le, dec_lt}
 use native.Mathlib.Omega.{arith}
 use lib.ListN.{length, take, drop, length-drop}
 use lib.Dec.{eqb}
+use borrow.Author.Tests.{ne_eqb}
 use lib.Seq.{drop-drop, take-nil, get_or-drop}
 use Rattle.std.proofs.lemmas.List.{take_all}
-use Rattle.lexis.specs.Bytes.{byte_at, is_space, is_rest, is_foreign, run, run_to, begins}
+use Rattle.lexis.specs.Bytes.{byte_at, is_space, is_rest, is_foreign, run, run_to, begins, stands}
 use Rattle.lexis.specs.Heredoc.{part, ends_by, closing, line_as, line_at, fresh_at}
 use Rattle.lexis.specs.declared.heredoc.Line.{Line}
 use Rattle.lexis.specs.declared.heredoc.Line.TheVariants.{Text, Closes, Foreign}
@@ -33,6 +34,15 @@ module _ (s : List ℕ) (e k : ℕ) where
       go (yes l) = let n : e - k ≡ 0 = omega arith in rw n
       go (no l) = rw (empty s k (omega arith), take-nil {A = ℕ} (e - k))
 
+  -- the first byte of a delimiter is not the one at j
+  pub part_miss : (j : ℕ) → k < min e (length s) → (byte_at s j ≡ byte_at s k → ⊥) → begins (part s k e) (drop j s) ≡ false
+  unfolding begins
+  part_miss j h f = go (dec_lt j (length s))
+    where
+      go : Dec (j < length s) → begins (part s k e) (drop j s) ≡ false
+      go (yes l) = rw (part_next h, next s j l, ne_eqb (byte_at s j) (byte_at s k) f)
+      go (no l) = rw (part_next h, empty s j (omega arith))
+
 -- the slice that the code takes is that part of the source
 pub part_slice : (s : List ℕ) (d e : ℕ) {t f : ℕ} → t ≡ min e (length s) → f ≡ min d t → take (t - f) (drop f s) ≡ part s d e
 part_slice s d e {t} {f} h k = go (dec_le d t) (dec_le e (length s))
@@ -43,6 +53,25 @@ part_slice s d e {t} {f} h k = go (dec_le d t) (dec_le e (length s))
     go (yes l) (no m) =
         let n : f ≡ d = omega arith in
         rw n (take_all (t - d) (drop d s) (omega (arith, length-drop d s)) ∙ sym (take_all (e - d) (drop d s) (omega (arith, length-drop d s))))
+
+-- a word by its first n bytes and what is left of it
+begins_split : (n : ℕ) (w l : List ℕ) → begins w l ≡ begins (take n w) l && begins (drop n w) (drop n l)
+unfolding begins
+begins_split zero w l = refl
+begins_split (suc n) [] l = refl
+begins_split (suc n) (b ∷ w) [] = refl
+begins_split (suc n) (b ∷ w) (x ∷ l) = ap (λ r. eqb x b && r) (begins_split n w l) ∙ nest (eqb x b)
+  where
+    nest : (y : Bool) → y && (begins (take n w) l && begins (drop n w) (drop n l)) ≡ (y && begins (take n w) l) && begins (drop n w) (drop n l)
+    nest true = refl
+    nest false = refl
+
+module _ (w s : List ℕ) (p n : ℕ) where
+  pub split_miss : stands (take n w) s p ≡ false → stands w s p ≡ false
+  split_miss e = begins_split n w (drop p s) ∙ ap (λ b. b && begins (drop n w) (drop n (drop p s))) e
+
+  pub split_hit : stands (take n w) s p ≡ true → begins (drop n w) (drop (p + n) s) ≡ stands w s p
+  split_hit e = ap (begins (drop n w)) (sym (drop-drop n p s)) ∙ sym (begins_split n w (drop p s) ∙ ap (λ b. b && begins (drop n w) (drop n (drop p s))) e)
 
 -- what a line is, by its delimiter D and the place q behind its spaces
 module _ (D s : List ℕ) (p q : ℕ) (e : q ≡ run_to is_space s p) where

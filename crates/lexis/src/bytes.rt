@@ -91,7 +91,7 @@ pub fn two_at(s: &[u8], p: usize, a: u8, b: u8) -> bool
 pub fn all_at(s: &[u8], p: usize, w: &[u8]) -> bool
     ensures { result ≡ stands w.now s.now p }
 {
-    // byte by byte: most often the first byte tells, and the library's comparison looks at whole blocks
+    // byte by byte: most often the first byte tells
     for i in 0..w.len() {
         if !one_at(s, p + i, w[i]) {
             return false;

@@ -1,6 +1,6 @@
 // Heredocs: the opener, and the line that closes the text.
 ghost use Rattle.std.specs.Prelude.{◌≡◌};
-ghost use Rattle.lexis.specs.Bytes.{Ran, is_space, run_to};
+ghost use Rattle.lexis.specs.Bytes.{Ran, is_space, run_to, stands};
 ghost use Rattle.lexis.specs.Heredoc.{part, line_at, fresh_at, opener_of, opener_word, opener_at, Opened};
 
 use crate::bytes::{all_at, byte_at, is_foreign, is_rest, is_space, one_at, two_at};
@@ -47,6 +47,23 @@ pub fn starts_line(s: &[u8], p: usize) -> bool
     }
 }
 
+// So many bytes of a delimiter are looked at one by one.
+const NEAR: usize = 8;
+
+// Whether the delimiter w stands at p: its first bytes one by one, what is left by the library, which compares blocks. Few lines ask for it, so it stays a function of its own.
+#[inline(never)]
+fn delimits(s: &[u8], p: usize, w: &[u8]) -> bool
+    ensures { result ≡ stands w.now s.now p }
+{
+    if w.len() <= NEAR {
+        return all_at(s, p, w);
+    }
+    if !all_at(s, p, &w[..NEAR]) {
+        return false;
+    }
+    s[p + NEAR..].starts_with(&w[NEAR..])
+}
+
 // What the line at p is, for the delimiter that stands in the source from d to e.
 pub fn line_at(s: &[u8], d: usize, e: usize, p: usize) -> Line
     ensures { result ≡ line_at (part s.now d e) s.now p }
@@ -54,7 +71,11 @@ pub fn line_at(s: &[u8], d: usize, e: usize, p: usize) -> Line
     let to = e.min(s.len());
     let delimiter = &s[d.min(to)..to];
     let from = spaces_end(s, p);
-    if !all_at(s, from, delimiter) {
+    // most lines are told by their first byte
+    if d < to && byte_at(s, from) != byte_at(s, d) {
+        return Line::Text;
+    }
+    if !delimits(s, from, delimiter) {
         return Line::Text;
     }
     let j = from + delimiter.len();
